@@ -1,0 +1,19 @@
+-- The answer numbers of document 01.
+--   numberOf a      the number of the answer a in the table
+--   numberOf-same   two answers of one number are one answer
+-- Assumes nothing.
+use Prim.Native.Nat.{ℕ}
+use Rattle.answer.specs.declared.Answer.{Answer}
+use Rattle.answer.specs.declared.Answer.the-variants.{Done, BadEnd, NoRegister, ReadOnly, Blocked, BadSymbol, BadHealth, BadLength, NothingFound, NotAcceptable}
+
+abbrev pub numberOf : Answer → ℕ
+numberOf Done = 0
+numberOf BadEnd = 1
+numberOf NoRegister = 2
+numberOf ReadOnly = 3
+numberOf Blocked = 4
+numberOf BadSymbol = 5
+numberOf BadHealth = 6
+numberOf BadLength = 7
+numberOf NothingFound = 8
+numberOf NotAcceptable = 9

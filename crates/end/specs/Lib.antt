@@ -1,0 +1,5 @@
+pub mod Good
+pub mod Sending
+pub mod Taking
+pub mod Registers
+pub mod EndCases

@@ -1,0 +1,1 @@
+// The frame of document 01.

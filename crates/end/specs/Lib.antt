@@ -3,3 +3,4 @@ pub mod Sending
 pub mod Taking
 pub mod Registers
 pub mod EndCases
+pub mod Names

@@ -1,5 +1,13 @@
 // One end of the OAM channel, document 01: a struct by value of parts. Each call takes the old end and gives the next one
 // with its answer; any record may come in, and one that answer 1 meets comes back as it was.
+mod good;
+mod message;
+mod reading;
+mod registers;
+mod sending;
+mod taking;
+mod writing;
+
 use answer::Answer;
 
 // The sending side: the twelve symbols being sent and where the next slot is.

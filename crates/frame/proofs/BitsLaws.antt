@@ -1,16 +1,20 @@
 -- Laws of Bits.antt, in its order: exclusive or, the bits of a number, the number of bits, and whether their ones are odd.
 -- Assumes nothing.
 use Prim.Native.Nat.{ℕ, zero, suc, _+_, _*_, _/_, _%_, _^_, _<_}
-use native.Mathlib.Nat.{mul-assoc, mul-comm, pow-zero, pow-suc, pow-succ', mod-one, one-mul, zero-add}
+use native.Mathlib.Nat.{mul-assoc, mul-comm, pow-zero, pow-suc, pow-succ', mod-one, mod-lt, one-mul, zero-add, suc-add, div-one, div-eq-of-lt, div-div-eq-div-mul}
 use native.Mathlib.Omega.{arith}
 use mathlib.Core.Bool.{Bool, true, false, not, cond, xor}
 use mathlib.Core.List.{List, [], _∷_, _++_}
 use mathlib.Core.Path.{_≡_, refl, ap, ap₂, sym, _∙_, subst}
+use borrow.Author.Tests.{eq-eqb, ne-eqb}
 use lib.Dec.{eqb}
-use lib.ListN.{length}
+use lib.Bits.{differ, bitXor, xor-step}
+use lib.Count.{ones, ones-step}
+use lib.ListN.{length, replicate}
 use lib.Arith.{mod-mul}
 use lib.Pow.{pow-pos}
 use Rattle.frame.specs.Bits.{odd, bits, number, oddOnes}
+use Rattle.frame.specs.Crc.{plus}
 
 pub xor-assoc : (a b c : Bool) → xor (xor a b) c ≡ xor a (xor b c)
 unfolding xor
@@ -34,6 +38,14 @@ pub xor-self : (a : Bool) → xor a a ≡ false
 unfolding xor
 xor-self true = refl
 xor-self false = refl
+
+-- the same twice is gone
+pub xor-back : (a b : Bool) → xor (xor a b) b ≡ a
+unfolding xor
+xor-back true true = refl
+xor-back true false = refl
+xor-back false true = refl
+xor-back false false = refl
 
 pub xor-false : (a : Bool) → xor a false ≡ a
 unfolding xor
@@ -110,12 +122,30 @@ number-append (b ∷ s) t =
     regroup : (c a n : ℕ) → c + 2 * (a + n) ≡ c + 2 * a + 2 * n
     regroup c a n = omega arith
 
+pub bits-append : (w v n : ℕ) → bits (w + v) n ≡ bits w n ++ bits v (n / 2 ^ w)
+unfolding bits
+bits-append zero v n = rw (zero-add, div-one)
+bits-append (suc w) v n =
+    ap (λ (k : ℕ). bits k n) (suc-add w v)
+    ∙ ap (λ (s : List Bool). odd n ∷ s) (bits-append w v (n / 2))
+    ∙ ap (λ (k : ℕ). odd n ∷ (bits w (n / 2) ++ bits v k)) (div-div-eq-div-mul n 2 (2 ^ w) ∙ ap (λ (p : ℕ). n / p) (sym (pow-succ' 2 w)))
+
 -- the low w bits are those of the remainder
 pub bits-mod : (w n : ℕ) → bits w (n % 2 ^ w) ≡ bits w n
 bits-mod w n =
     ap (bits w) (sym (number-bits w n))
     ∙ ap (λ (k : ℕ). bits k (number (bits w n))) (sym (bits-length w n))
     ∙ bits-number (bits w n)
+
+pub bits-zero : (w : ℕ) → bits w 0 ≡ replicate w false
+unfolding odd bits
+bits-zero zero = refl
+bits-zero (suc w) = ap (λ (s : List Bool). false ∷ s) (bits-zero w)
+
+-- a number of w bits has zeros above them
+pub bits-above : (w v n : ℕ) → n < 2 ^ w → bits (w + v) n ≡ bits w n ++ replicate v false
+bits-above w v n h =
+    bits-append w v n ∙ ap (λ (s : List Bool). bits w n ++ s) (ap (bits v) (div-eq-of-lt h) ∙ bits-zero v)
 
 pub oddOnes-append : (s t : List Bool) → oddOnes (s ++ t) ≡ xor (oddOnes s) (oddOnes t)
 unfolding oddOnes xor
@@ -125,3 +155,64 @@ oddOnes-append [] t = xor-false-left (oddOnes t)
     xor-false-left true = refl
     xor-false-left false = refl
 oddOnes-append (b ∷ s) t = ap (xor b) (oddOnes-append s t) ∙ sym (xor-assoc b (oddOnes s) (oddOnes t))
+
+-- ---------------------------------------------------------------- the code's count of ones, and its exclusive or
+
+odd-more : (r n : ℕ) → r < 2 → odd (r + n) ≡ xor (eqb r 1) (odd n)
+unfolding odd xor
+odd-more zero n h = ap (λ (m : ℕ). eqb (m % 2) 1) (zero-add n) ∙ kept (eqb (n % 2) 1)
+  where
+    kept : (b : Bool) → b ≡ xor false b
+    kept true = refl
+    kept false = refl
+odd-more (suc zero) n h = go (n % 2) refl (omega arith)
+  where
+    go : (r : ℕ) → n % 2 ≡ r → r < 2 → eqb ((1 + n) % 2) 1 ≡ xor true (eqb r 1)
+    go zero e k = eq-eqb ((1 + n) % 2) 1 (omega arith)
+    go (suc zero) e k = ne-eqb ((1 + n) % 2) 1 (omega arith)
+    go (suc (suc r)) e k = absurd (omega arith)
+odd-more (suc (suc r)) n h = absurd (omega arith)
+
+ones-odd : (w n : ℕ) → n < 2 ^ w → odd (ones n) ≡ oddOnes (bits w n)
+unfolding odd bits oddOnes ones
+ones-odd zero n h = ap (λ (m : ℕ). odd (ones m)) (none n h)
+  where
+    none : (n : ℕ) → n < 1 → n ≡ 0
+    none n h = omega arith
+ones-odd (suc w) n h =
+    ap odd (ones-step n)
+    ∙ odd-more (n % 2) (ones (n / 2)) (omega arith)
+    ∙ ap (xor (odd n)) (ones-odd w (n / 2) (half n (2 ^ w) (rw pow-suc at h)))
+  where
+    half : (n p : ℕ) → n < p * 2 → n / 2 < p
+    half n p h = omega arith
+
+-- the low w bits have an odd number of ones where the count of ones in the remainder is odd
+pub ones-parity : (w n : ℕ) → odd (ones (n % 2 ^ w)) ≡ oddOnes (bits w n)
+ones-parity w n = ones-odd w (n % 2 ^ w) (mod-lt n (pow-pos w)) ∙ ap oddOnes (bits-mod w n)
+
+-- the digit where two digits differ
+differ-bit : (x y : ℕ) → x < 2 → y < 2 → (differ x y < 2) × (eqb (differ x y) 1 ≡ xor (eqb x 1) (eqb y 1))
+unfolding xor
+differ-bit zero zero h k = (h, refl)
+differ-bit zero (suc zero) h k = (k, refl)
+differ-bit zero (suc (suc y)) h k = absurd (omega arith)
+differ-bit (suc zero) zero h k = (h, refl)
+differ-bit (suc zero) (suc zero) h k = (omega arith, refl)
+differ-bit (suc zero) (suc (suc y)) h k = absurd (omega arith)
+differ-bit (suc (suc x)) y h k = absurd (omega arith)
+
+pub bits-xor : (w a b : ℕ) → bits w (bitXor a b) ≡ plus (bits w a) (bits w b)
+unfolding odd bits plus
+bits-xor zero a b = refl
+bits-xor (suc w) a b =
+    let d = differ-bit (a % 2) (b % 2) (omega arith) (omega arith) in
+    ap (bits (suc w)) (xor-step a b)
+    ∙ ap₂ (λ (r n : ℕ). eqb r 1 ∷ bits w n) (low (bitXor (a / 2) (b / 2)) (differ (a % 2) (b % 2)) (d .0)) (high (bitXor (a / 2) (b / 2)) (differ (a % 2) (b % 2)) (d .0))
+    ∙ ap₂ {B = List Bool} _∷_ (d .1) (bits-xor w (a / 2) (b / 2))
+  where
+    low : (n r : ℕ) → r < 2 → (n * 2 + r) % 2 ≡ r
+    low n r h = omega arith
+
+    high : (n r : ℕ) → r < 2 → (n * 2 + r) / 2 ≡ n
+    high n r h = omega arith

@@ -5,7 +5,7 @@ use Prim.Native.Nat.{ℕ, zero, suc, _+_, _*_, _/_, _%_, _^_, _≤_, _<_}
 use native.Mathlib.Nat.{le-of-suc-le-suc}
 use native.Mathlib.Omega.{arith}
 use mathlib.Core.Bool.{Bool, true, false, not, xor, _&&_, cond}
-use mathlib.Core.List.{List, [], _∷_, _++_, map}
+use mathlib.Core.List.{List, [], _∷_, _++_, map, append-assoc, append-nil}
 use mathlib.Core.Path.{_≡_, refl, ap, ap₂, sym, _∙_, subst}
 use borrow.Author.Tests.{eq-eqb, lt-leb}
 use lib.Dec.{eqb, leb, lit<}
@@ -14,7 +14,7 @@ use lib.Seq.{take-at, getD-append-add}
 use Rattle.frame.specs.Bits.{bits, number, oddOnes}
 use Rattle.frame.specs.Crc.{crc}
 use Rattle.frame.specs.Frame.{generator, stream, crcOf, dataOf, marked, even, evenSymbol, oddSymbol, symbols, build, crcRight, noneMarked, allOdd, paritiesRight, acceptable}
-use Rattle.frame.proofs.BitsLaws.{xor-self, bits-length, bits-number, number-bits, number-below, number-append, bits-mod, oddOnes-append}
+use Rattle.frame.proofs.BitsLaws.{xor-self, xor-false, bits-above, bits-length, bits-number, number-bits, number-below, number-append, bits-append, bits-mod, oddOnes-append}
 use Rattle.frame.proofs.CrcLaws.{crc-length}
 
 -- ---------------------------------------------------------------- the CRC of bytes
@@ -24,9 +24,18 @@ unfolding stream
 stream-data [] = refl
 stream-data (d ∷ l) = ap₂ {B = List Bool} _++_ (bits-mod 8 d) (stream-data l)
 
+pub stream-append : (l m : List ℕ) → stream (l ++ m) ≡ stream l ++ stream m
+unfolding stream
+stream-append [] m = refl
+stream-append (d ∷ l) m = ap (λ (s : List Bool). bits 8 d ++ s) (stream-append l m) ∙ sym (append-assoc (bits 8 d) (stream l) (stream m))
+
 pub crcOf-data : (l : List ℕ) → crcOf (map dataOf l) ≡ crcOf l
 unfolding crcOf
 crcOf-data l = ap (λ (bs : List Bool). number (crc generator bs)) (stream-data l)
+
+pub generator-length : length generator ≡ 16
+unfolding generator
+generator-length = refl
 
 pub crcOf-below : (l : List ℕ) → crcOf l < 65536
 unfolding crcOf generator
@@ -66,6 +75,35 @@ symbol-odd d p = ap oddOnes (symbol-bits d p) ∙ oddOnes-append (bits 8 d) (p �
     last : (p : Bool) → xor p false ≡ p
     last true = refl
     last false = refl
+
+symbol-number : (d : ℕ) (p : Bool) → d < 256 → symbol d p ≡ d + cond p 256 0
+unfolding symbol number
+symbol-number d p h =
+    number-append (bits 8 d) (p ∷ [])
+    ∙ ap₂ (λ (a b : ℕ). a + 2 ^ b * number (p ∷ [])) (number-bits 8 d) (bits-length 8 d)
+    ∙ value d p h
+  where
+    value : (d : ℕ) (p : Bool) → d < 256 → d % 256 + 256 * (cond p 1 0 + 2 * 0) ≡ d + cond p 256 0
+    value d true h = omega arith
+    value d false h = omega arith
+
+-- a byte's ninth bit is zero
+byte-odd : (d : ℕ) → d < 256 → oddOnes (bits 9 d) ≡ oddOnes (bits 8 d)
+unfolding oddOnes
+byte-odd d h = ap oddOnes (bits-above 8 1 d h) ∙ oddOnes-append (bits 8 d) (false ∷ []) ∙ xor-false (oddOnes (bits 8 d))
+
+pub evenSymbol-number : (d : ℕ) (b : Bool) → d < 256 → b ≡ oddOnes (bits 9 d) → d + cond b 256 0 ≡ evenSymbol d
+unfolding evenSymbol symbol
+evenSymbol-number d b h e = ap (λ (p : Bool). d + cond p 256 0) (e ∙ byte-odd d h) ∙ sym (symbol-number d (oddOnes (bits 8 d)) h)
+
+pub oddSymbol-number : (d : ℕ) (b : Bool) → d < 256 → b ≡ oddOnes (bits 9 d) → d + cond b 0 256 ≡ oddSymbol d
+unfolding oddSymbol symbol
+oddSymbol-number d b h e =
+    turned b ∙ ap (λ (p : Bool). d + cond (not p) 256 0) (e ∙ byte-odd d h) ∙ sym (symbol-number d (not (oddOnes (bits 8 d))) h)
+  where
+    turned : (b : Bool) → d + cond b 0 256 ≡ d + cond (not b) 256 0
+    turned true = refl
+    turned false = refl
 
 pub evenSymbol-below : (d : ℕ) → evenSymbol d < 512
 unfolding evenSymbol symbol
@@ -141,14 +179,14 @@ symbols-rest (d ∷ l) (suc i) p h = odds-odd l i (le-of-suc-le-suc h)
 -- ---------------------------------------------------------------- build
 
 -- the two bytes of the CRC, symbol 10's first
-pub crcBytes : List ℕ → List ℕ
+unfoldable pub crcBytes : List ℕ → List ℕ
 crcBytes l = crcOf l % 256 ∷ crcOf l / 256 ∷ []
 
-build-symbols : (l : List ℕ) → build l ≡ symbols (l ++ crcBytes l)
+pub build-symbols : (l : List ℕ) → build l ≡ symbols (l ++ crcBytes l)
 unfolding build crcBytes
 build-symbols l = refl
 
-with-crc-length : (l : List ℕ) → length l ≡ 10 → length (l ++ crcBytes l) ≡ 12
+pub with-crc-length : (l : List ℕ) → length l ≡ 10 → length (l ++ crcBytes l) ≡ 12
 unfolding crcBytes
 with-crc-length l e = length-append l (crcBytes l) ∙ ap (λ (n : ℕ). n + 2) e
 
@@ -183,7 +221,7 @@ build-all-data l =
     high : (n : ℕ) → n < 65536 → n / 256 % 256 ≡ n / 256
     high n h = omega arith
 
-data-at : (l : List ℕ) (i : ℕ) → dataOf (getD l i 0) ≡ getD (map dataOf l) i 0
+pub data-at : (l : List ℕ) (i : ℕ) → dataOf (getD l i 0) ≡ getD (map dataOf l) i 0
 data-at l i = sym (List·getD-map dataOf l i 0)
 
 pub build-data : (l : List ℕ) (i : ℕ) → length l ≡ 10 → i < 10 → dataOf (getD (build l) i 0) ≡ getD l i 0 % 256
@@ -192,6 +230,23 @@ build-data l i e h =
     ∙ ap (λ (x : List ℕ). getD x i 0) (build-all-data l)
     ∙ List·getD-append (map dataOf l) (crcBytes l) 0 i (rw (length-map l dataOf, e) h)
     ∙ sym (data-at l i)
+
+crcBytes-stream : (l : List ℕ) → stream (crcBytes l) ≡ crc generator (stream l)
+unfolding stream crcBytes crcOf
+crcBytes-stream l =
+    ap₂ (λ (s t : List Bool). s ++ t) (bits-mod 8 (crcOf l)) (append-nil (bits 8 (crcOf l / 256)))
+    ∙ sym (bits-append 8 8 (crcOf l))
+    ∙ ap (λ (w : ℕ). bits w (crcOf l)) (sym (crc-length generator (stream l) ∙ generator-length))
+    ∙ bits-number (crc generator (stream l))
+
+-- the data bits of the twelve symbols are those of the ten bytes and then their CRC, S15 first
+pub build-stream : (l : List ℕ) → stream (build l) ≡ stream l ++ crc generator (stream l)
+build-stream l =
+    sym (stream-data (build l))
+    ∙ ap stream (ap (map dataOf) (build-symbols l) ∙ symbols-data (l ++ crcBytes l))
+    ∙ stream-data (l ++ crcBytes l)
+    ∙ stream-append l (crcBytes l)
+    ∙ ap (λ (s : List Bool). stream l ++ s) (crcBytes-stream l)
 
 -- ---------------------------------------------------------------- what is built is acceptable
 

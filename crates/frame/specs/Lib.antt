@@ -1,4 +1,6 @@
 pub mod Bits
 pub mod Crc
 pub mod Frame
+pub mod Distance
+pub mod Check
 pub mod FrameCases

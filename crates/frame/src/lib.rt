@@ -1,1 +1,150 @@
-// The frame of document 01.
+// The frame of document 01, "The frame": parity, CRC, the twelve symbols of ten bytes, and the frame check.
+mod register;
+
+use answer::Answer;
+ghost use mathlib.Core.Path.{_≡_};
+ghost use Rattle.frame.specs.Bits.{bits, oddOnes};
+ghost use Rattle.frame.specs.Check.{rightAt, someAbove, checkOf};
+ghost use Rattle.frame.specs.Frame.{crcOf, dataOf, evenSymbol, oddSymbol, build as buildOf, crcRight};
+
+// How many symbols a frame has, and how many of them hold the message.
+const SYMBOLS: usize = 12;
+
+const BYTES: usize = 10;
+
+// A received symbol is at most this, and is marked from 512 on.
+const LARGEST: u16 = 1023;
+
+const MARKED: u16 = 512;
+
+// Whether the nine bits of a symbol have an odd number of ones.
+pub fn parity(symbol: u16) -> bool
+    ensures { λ r. ⌜ r ≡ oddOnes (bits 9 symbol) ⌝ }
+{
+    let nine = symbol % 512;
+    u32::count_ones(nine as u32) % 2 == 1
+}
+
+// The CRC of ten data bytes: bit 0 is S15, bit 15 is S0.
+pub fn crc(bytes: [u8; 10]) -> u16
+    ensures { λ r. ⌜ r ≡ crcOf bytes ⌝ }
+{
+    let mut register: u16 = 0;
+    let mut i = 0;
+    while i < BYTES {
+        register = register::fed(register, bytes[i]);
+        i += 1;
+    }
+    register
+}
+
+// The symbol with this data and an even number of ones.
+fn even_symbol(byte: u8) -> u16
+    ensures { λ r. ⌜ r ≡ evenSymbol byte ⌝ }
+{
+    let d = byte as u16;
+    if parity(d) { d + 256 } else { d }
+}
+
+// The symbol with this data and an odd number of ones.
+fn odd_symbol(byte: u8) -> u16
+    ensures { λ r. ⌜ r ≡ oddSymbol byte ⌝ }
+{
+    let d = byte as u16;
+    if parity(d) { d } else { d + 256 }
+}
+
+// Sending step 4: the twelve symbols of ten data bytes.
+pub fn build(bytes: [u8; 10]) -> [u16; 12]
+    ensures { λ r. ⌜ r ≡ buildOf bytes ⌝ }
+{
+    let check = crc(bytes);
+    let mut symbols = [0u16; 12];
+    symbols[0] = even_symbol(bytes[0]);
+    let mut i = 1;
+    while i < BYTES {
+        symbols[i] = odd_symbol(bytes[i]);
+        i += 1;
+    }
+    symbols[10] = odd_symbol((check % 256) as u8);
+    symbols[11] = odd_symbol((check / 256 % 256) as u8);
+    symbols
+}
+
+// The eight data bits of a symbol.
+fn data_of(symbol: u16) -> u8
+    ensures { λ r. ⌜ r ≡ dataOf symbol ⌝ }
+{
+    (symbol % 256) as u8
+}
+
+// Whether symbols 10 and 11 hold the CRC of symbols 0 to 9.
+pub fn crc_right(symbols: [u16; 12]) -> bool
+    ensures { λ r. ⌜ r ≡ crcRight symbols ⌝ }
+{
+    let mut bytes = [0u8; 10];
+    let mut i = 0;
+    while i < BYTES {
+        bytes[i] = data_of(symbols[i]);
+        i += 1;
+    }
+    let low = symbols[10] % 256;
+    let high = symbols[11] % 256;
+    crc(bytes) == low + 256 * high
+}
+
+// Whether a symbol may stand at a place of a frame: not marked, even at place 0 and odd at any other.
+pub fn right_at(symbol: u16, place: usize) -> bool
+    ensures { λ r. ⌜ r ≡ rightAt place symbol ⌝ }
+{
+    if MARKED <= symbol {
+        return false;
+    }
+    if place == 0 {
+        !parity(symbol)
+    } else {
+        parity(symbol)
+    }
+}
+
+// Whether a list holds a number that is no received symbol.
+pub fn some_above(list: &[u16]) -> bool
+    ensures { λ r. ⌜ r ≡ someAbove (now (list .entry)) ⌝ }
+{
+    let mut i = 0;
+    while i < list.len() {
+        if LARGEST < list[i] {
+            return true;
+        }
+        i += 1;
+    }
+    false
+}
+
+// The frame check. Its answers are 7, 5, 9 and 0, in that order of tests.
+pub fn check(list: &[u16]) -> Answer
+    ensures { λ r. ⌜ r ≡ checkOf (now (list .entry)) ⌝ }
+{
+    if list.len() != SYMBOLS {
+        return Answer::BadLength;
+    }
+    if some_above(list) {
+        return Answer::BadSymbol;
+    }
+    let mut symbols = [0u16; 12];
+    let mut i = 0;
+    while i < SYMBOLS {
+        let symbol = list[i];
+        if right_at(symbol, i) {
+            symbols[i] = symbol;
+            i += 1;
+        } else {
+            return Answer::NotAcceptable;
+        }
+    }
+    if crc_right(symbols) {
+        Answer::Done
+    } else {
+        Answer::NotAcceptable
+    }
+}

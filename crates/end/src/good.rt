@@ -1,0 +1,99 @@
+// Answer 1, the end after reset, and presence.
+use crate::Collector;
+use crate::End;
+use crate::Heard;
+use crate::Inbox;
+use crate::Outbox;
+use crate::Sender;
+ghost use mathlib.Core.Path.{_≡_};
+ghost use Rattle.end.specs.Good.{above, bad, resetOf, presentOf};
+
+impl End {
+    // The end after reset: everything 0, the sender ready, the position 0.
+    pub fn reset() -> End
+        ensures { λ r. ⌜ r ≡ resetOf ⌝ }
+    {
+        End {
+            sender: Sender {
+                symbols: [0; 12],
+                position: 0,
+                toggle: false,
+                ready: true,
+                health: 0,
+                loaded: 0,
+            },
+            outbox: Outbox {
+                pending: false,
+                toggle: false,
+                received: false,
+                confirmed: false,
+                number: 0,
+                ping: false,
+                bytes: [0; 8],
+            },
+            collector: Collector {
+                symbols: [0; 12],
+                count: 0,
+            },
+            heard: Heard {
+                present: false,
+                health: 0,
+                got: false,
+                ping: false,
+                valid: false,
+                toggle: false,
+                ack: false,
+                togack: false,
+            },
+            inbox: Inbox {
+                expected: false,
+                acknowledge: false,
+                full: false,
+                toggle: false,
+                number: 0,
+                bytes: [0; 8],
+            },
+        }
+    }
+
+    // Partner present: a frame was accepted since reset. A record that answer 1 would meet says no.
+    pub fn present(self) -> bool
+        ensures { λ r. ⌜ r ≡ presentOf self ⌝ }
+    {
+        if bad(self) {
+            return false;
+        }
+        self.heard.present
+    }
+}
+
+// Answer 1: a position or count above 11, a stored symbol above 511, a health above 3 or a number above 15.
+pub fn bad(end: End) -> bool
+    ensures { λ r. ⌜ r ≡ bad end ⌝ }
+{
+    let sent = end.sender.symbols;
+    let collected = end.collector.symbols;
+    (end.sender.position > 11)
+        | (end.collector.count > 11)
+        | any_above(511, sent)
+        | any_above(511, collected)
+        | (end.sender.health > 3)
+        | (end.sender.loaded > 3)
+        | (end.heard.health > 3)
+        | (end.outbox.number > 15)
+        | (end.inbox.number > 15)
+}
+
+// Some symbol is above the limit.
+fn any_above(limit: u16, symbols: [u16; 12]) -> bool
+    ensures { λ r. ⌜ r ≡ above limit symbols ⌝ }
+{
+    let mut i = 0;
+    while i < 12 {
+        if symbols[i] > limit {
+            return true;
+        }
+        i += 1;
+    }
+    false
+}

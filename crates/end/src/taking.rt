@@ -1,0 +1,177 @@
+// Taking, one symbol.
+use crate::Collector;
+use crate::End;
+use crate::Heard;
+use crate::Inbox;
+use crate::Next;
+use crate::good::bad;
+use crate::message::message_of;
+use answer::Answer;
+ghost use mathlib.Core.Path.{_≡_};
+ghost use mathlib.Core.Bool.{false, _&&_};
+ghost use Prim.Native.Nat.{_≤_};
+ghost use Rattle.frame.specs.Frame.{crcRight};
+ghost use Rattle.end.specs.Good.{bad};
+ghost use Rattle.end.specs.Taking.{settled, completes, collected, saidBy, pickHeard, enters, entered, taken, takeOf};
+
+// A symbol of 512 or more is marked; none is above 1,023.
+const MARKED: u16 = 512;
+const LARGEST: u16 = 1023;
+
+impl End {
+    // Settle, collect and, with the twelfth symbol of a frame whose CRC is right, accept and enter.
+    pub fn take(self, symbol: u16) -> Next
+        ensures { λ r. ⌜ r ≡ takeOf self symbol ⌝ }
+    {
+        if bad(self) {
+            return Next {
+                answer: Answer::BadEnd,
+                end: self,
+            };
+        }
+        if symbol > LARGEST {
+            return Next {
+                answer: Answer::BadSymbol,
+                end: self,
+            };
+        }
+        let next = taken(symbol, self);
+        Next {
+            answer: Answer::Done,
+            end: next,
+        }
+    }
+}
+
+// The three steps.
+fn taken(symbol: u16, mut end: End) -> End
+    requires { ⌜ bad end ≡ false ⌝ }
+    ensures { λ r. ⌜ r ≡ taken symbol end ⌝ }
+{
+    let before = end.collector;
+    let last = end.heard;
+    let inbox = settle(end);
+    let collector = collect(symbol, before);
+    let symbols = collector.symbols;
+    let accepted = accept(symbol, before, symbols);
+    let heard = hear(accepted, symbols, last);
+    let entered = enter(accepted, symbols, inbox);
+    end.collector = collector;
+    end.heard = heard;
+    end.inbox = entered;
+    end
+}
+
+// Step 1. If the last accepted frame had Valid 0, or the acknowledge is 0, then expected toggle takes that frame's Toggle
+// and the acknowledge becomes 0.
+fn settle(end: End) -> Inbox
+    ensures { λ r. ⌜ r ≡ settled end ⌝ }
+{
+    let mut inbox = end.inbox;
+    let releases = !end.heard.valid | !inbox.acknowledge;
+    if releases {
+        inbox.expected = end.heard.toggle;
+        inbox.acknowledge = false;
+        return inbox;
+    }
+    inbox
+}
+
+// Step 2, and the emptying of step 3. A marked symbol empties the collection; an even one starts a new one; an odd one is
+// added if the collection is not empty, and as the twelfth it empties it.
+fn collect(symbol: u16, mut collector: Collector) -> Collector
+    requires { ⌜ collector .count ≤ 11 ⌝ }
+    ensures { λ r. ⌜ r ≡ collected symbol collector ⌝ }
+{
+    let count = collector.count;
+    let place = count as usize;
+    if symbol >= MARKED {
+        collector.count = 0;
+        return collector;
+    }
+    if frame::parity(symbol) {
+        if count == 0 {
+            return collector;
+        }
+        collector.symbols[place] = symbol;
+        if count == 11 {
+            collector.count = 0;
+            return collector;
+        }
+        collector.count = count + 1;
+        return collector;
+    }
+    collector.symbols[0] = symbol;
+    collector.count = 1;
+    collector
+}
+
+// Step 3's test: the symbol is the twelfth of the collection as it was, and the CRC of all twelve is right.
+fn accept(symbol: u16, before: Collector, symbols: [u16; 12]) -> bool
+    ensures { λ r. ⌜ r ≡ completes symbol before && crcRight symbols ⌝ }
+{
+    if symbol >= MARKED {
+        return false;
+    }
+    if frame::parity(symbol) {
+        if before.count == 11 {
+            return frame::crc_right(symbols);
+        }
+    }
+    false
+}
+
+// Partner health, both Ping bits, Valid, Toggle, Ack and TogAck are taken from an accepted frame.
+fn hear(accepted: bool, symbols: [u16; 12], last: Heard) -> Heard
+    ensures { λ r. ⌜ r ≡ pickHeard accepted (saidBy symbols) last ⌝ }
+{
+    if accepted {
+        return said_by(symbols);
+    }
+    last
+}
+
+// What the twelve symbols say.
+fn said_by(symbols: [u16; 12]) -> Heard
+    ensures { λ r. ⌜ r ≡ saidBy symbols ⌝ }
+{
+    let zero = symbols[0];
+    let one = symbols[1];
+    Heard {
+        present: true,
+        health: (zero % 4) as u8,
+        got: zero / 8 % 2 == 1,
+        ping: zero / 4 % 2 == 1,
+        valid: one / 128 % 2 == 1,
+        toggle: one / 64 % 2 == 1,
+        ack: one / 32 % 2 == 1,
+        togack: one / 16 % 2 == 1,
+    }
+}
+
+// Number, bytes and toggle enter the receive register together: it is full, the opposite toggle is expected, the
+// acknowledge is 1.
+fn enter(accepted: bool, symbols: [u16; 12], mut inbox: Inbox) -> Inbox
+    ensures { λ r. ⌜ r ≡ entered (enters accepted (saidBy symbols) inbox) symbols inbox ⌝ }
+{
+    let said = said_by(symbols);
+    if enters(accepted, said, inbox) {
+        let one = symbols[1];
+        let bytes = message_of(symbols);
+        inbox.expected = !said.toggle;
+        inbox.acknowledge = true;
+        inbox.full = true;
+        inbox.toggle = said.toggle;
+        inbox.number = (one % 16) as u8;
+        inbox.bytes = bytes;
+        return inbox;
+    }
+    inbox
+}
+
+// A frame was accepted, the receive register is empty, Valid is 1 and Toggle is the expected one.
+fn enters(accepted: bool, said: Heard, inbox: Inbox) -> bool
+    ensures { λ r. ⌜ r ≡ enters accepted said inbox ⌝ }
+{
+    accepted & !inbox.full & said.valid & (said.toggle == inbox.expected)
+}

@@ -1,0 +1,13 @@
+pub mod Base
+pub mod Decide
+pub mod Done
+pub mod Shapes
+pub mod Goods
+pub mod Tested
+pub mod Answers
+pub mod Identical
+pub mod Left
+pub mod Collecting
+pub mod Accepted
+pub mod Through
+pub mod Presence

@@ -1,0 +1,6 @@
+pub mod Calls
+pub mod Shape
+pub mod Rows
+pub mod Taken
+pub mod Leaves
+pub mod TakenCases

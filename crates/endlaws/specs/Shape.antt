@@ -1,0 +1,22 @@
+-- What Rust's types say of an end's arrays: how long they are, and that a byte is a byte.
+--   Arrays s c o i   twelve symbols in s and c, eight bytes in o and i
+--   Shaped e         the arrays of the end e: symbols being sent, symbols collected, bytes to send, bytes received
+-- Assumes nothing.
+use Prim.Native.Nat.{ℕ}
+use mathlib.Core.Bool.{false}
+use mathlib.Core.List.{List}
+use mathlib.Core.Path.{_≡_}
+use lib.ListN.{length}
+use Rattle.end.specs.declared.End.{End}
+use Rattle.end.specs.Good.{above}
+
+pub record Arrays (s c o i : List ℕ) : Type 0 where
+  pub sending : length s ≡ 12
+  pub collecting : length c ≡ 12
+  pub eight-out : length o ≡ 8
+  pub eight-in : length i ≡ 8
+  pub bytes-out : above 255 o ≡ false
+  pub bytes-in : above 255 i ≡ false
+
+abbrev pub Shaped : End → Type 0
+Shaped e = Arrays (e .sender .symbols) (e .collector .symbols) (e .outbox .bytes) (e .inbox .bytes)

@@ -1,0 +1,151 @@
+-- The answer table's rows for the frame check, each "exactly when"; what `someAbove` says of each symbol; and that results
+-- which satisfy the contract of a call of this crate are identical. Assumes nothing.
+use Prim.Native.Nat.{ℕ, zero, suc, _+_, _≤_, _<_}
+use native.Mathlib.Numerals.{add-one}
+use native.Mathlib.Omega.{arith}
+use mathlib.Core.Bool.{Bool, true, false, _||_, cond, true≢false}
+use mathlib.Core.List.{List, [], _∷_}
+use mathlib.Core.Logic.{_↔_, _≢_}
+use mathlib.Core.Path.{_≡_, refl, ap, sym, _∙_}
+use borrow.Author.Tests.{eqb-true, eqb-false, eq-eqb, ne-eqb, ltb-true, ltb-false, lt-ltb, le-ltb}
+use lib.Dec.{eqb, ltb}
+use lib.ListN.{length, drop, getD, drop-of-length-le}
+use lib.Seq.{drop-cons}
+use Rattle.answer.specs.Number.{numberOf}
+use Rattle.answer.specs.declared.Answer.{Answer}
+use Rattle.answer.specs.declared.Answer.the-variants.{Done, BadSymbol, BadLength, NotAcceptable}
+use Rattle.frame.specs.Check.{largest, someAbove, checkOf}
+use Rattle.frame.specs.Frame.{crcRight, acceptable}
+use Rattle.frame.proofs.AcceptLaws.{acceptable-length, acceptable-below}
+use Rattle.frame.proofs.RightLaws.{rightFrom, acceptable-right}
+
+-- ---------------------------------------------------------------- numbers above the largest symbol
+
+pub above-none : (l : List ℕ) (i : ℕ) → someAbove l ≡ false → getD l i 0 ≤ largest
+unfolding someAbove
+above-none [] i e = omega arith
+above-none (s ∷ l) zero e = ltb-false largest s (or-left (ltb largest s) (someAbove l) e)
+  where
+    or-left : (a b : Bool) → (a || b) ≡ false → a ≡ false
+    or-left true b e = e
+    or-left false b e = refl
+above-none (s ∷ l) (suc i) e = above-none l i (or-right (ltb largest s) (someAbove l) e)
+  where
+    or-right : (a b : Bool) → (a || b) ≡ false → b ≡ false
+    or-right true b e = absurd (true≢false e)
+    or-right false b e = e
+
+pub above-some : (l : List ℕ) → someAbove l ≡ true → (i : ℕ) × (i < length l) × (largest < getD l i 0)
+unfolding someAbove
+above-some [] e = absurd (true≢false (sym e))
+above-some (s ∷ l) e = go (ltb largest s) refl (above-some l) e
+  where
+    go : (b : Bool) → ltb largest s ≡ b → (someAbove l ≡ true → (i : ℕ) × (i < length l) × (largest < getD l i 0)) → (b || someAbove l) ≡ true
+        → (i : ℕ) × (i < length (s ∷ l)) × (largest < getD (s ∷ l) i 0)
+    go true t r f = (zero, omega arith, ltb-true largest s t)
+    go false t r f = let (i, h, k) = r f in (suc i, omega arith, k)
+
+pub above-from : (l : List ℕ) → ((i : ℕ) → getD l i 0 ≤ largest) → someAbove l ≡ false
+unfolding someAbove
+above-from [] h = refl
+above-from (s ∷ l) h = rw (le-ltb largest s (h 0)) (above-from l (λ i. h (suc i)))
+
+pub acceptable-above : (s : List ℕ) → acceptable s ≡ true → someAbove s ≡ false
+acceptable-above s e = above-from s (λ i. omega (arith, acceptable-below s e i))
+
+-- ---------------------------------------------------------------- a search from the front
+
+module _ (l : List ℕ) (i : ℕ) (h : i < length l) where
+  pub above-here : largest < getD l i 0 → someAbove (drop i l) ≡ true
+  unfolding someAbove
+  above-here k = rw (drop-cons l i 0 h, lt-ltb largest (getD l i 0) k)
+
+  pub above-next : getD l i 0 ≤ largest → someAbove (drop (i + 1) l) ≡ someAbove (drop i l)
+  unfolding someAbove
+  above-next k = rw (add-one, drop-cons l i 0 h, le-ltb largest (getD l i 0) k)
+
+pub above-end : (l : List ℕ) (i : ℕ) → length l ≤ i → someAbove (drop i l) ≡ false
+unfolding someAbove
+above-end l i h = rw (drop-of-length-le l h)
+
+-- ---------------------------------------------------------------- the rows
+
+-- the answer of three tests: twelve symbols, one above the largest, acceptable
+pick : Bool → Bool → Bool → Answer
+pick n a c = cond n (cond a BadSymbol (cond c Done NotAcceptable)) BadLength
+
+pick-7 : (n a c : Bool) → (numberOf (pick n a c) ≡ 7) ↔ (n ≡ false)
+unfolding pick
+pick-7 true true c = (λ e. absurd (omega arith), λ e. absurd (true≢false e))
+pick-7 true false true = (λ e. absurd (omega arith), λ e. absurd (true≢false e))
+pick-7 true false false = (λ e. absurd (omega arith), λ e. absurd (true≢false e))
+pick-7 false a c = (λ e. refl, λ e. refl)
+
+pick-5 : (n a c : Bool) → (numberOf (pick n a c) ≡ 5) ↔ ((n ≡ true) × (a ≡ true))
+unfolding pick
+pick-5 true true c = (λ e. (refl, refl), λ e. refl)
+pick-5 true false true = (λ e. absurd (omega arith), λ e. absurd (true≢false (sym (e .1))))
+pick-5 true false false = (λ e. absurd (omega arith), λ e. absurd (true≢false (sym (e .1))))
+pick-5 false a c = (λ e. absurd (omega arith), λ e. absurd (true≢false (sym (e .0))))
+
+pick-9 : (n a c : Bool) → (numberOf (pick n a c) ≡ 9) ↔ ((n ≡ true) × (a ≡ false) × (c ≡ false))
+unfolding pick
+pick-9 true true c = (λ e. absurd (omega arith), λ e. absurd (true≢false (e .1)))
+pick-9 true false true = (λ e. absurd (omega arith), λ e. absurd (true≢false (e .2)))
+pick-9 true false false = (λ e. (refl, refl, refl), λ e. refl)
+pick-9 false a c = (λ e. absurd (omega arith), λ e. absurd (true≢false (sym (e .0))))
+
+pick-0 : (n a c : Bool) → (numberOf (pick n a c) ≡ 0) ↔ ((n ≡ true) × (a ≡ false) × (c ≡ true))
+unfolding pick
+pick-0 true true c = (λ e. absurd (omega arith), λ e. absurd (true≢false (e .1)))
+pick-0 true false true = (λ e. (refl, refl, refl), λ e. refl)
+pick-0 true false false = (λ e. absurd (omega arith), λ e. absurd (true≢false (sym (e .2))))
+pick-0 false a c = (λ e. absurd (omega arith), λ e. absurd (true≢false (sym (e .0))))
+
+module _ (l : List ℕ) where
+  pub check-7 : (numberOf (checkOf l) ≡ 7) ↔ (length l ≢ 12)
+  unfolding checkOf pick
+  check-7 =
+      let row = pick-7 (eqb (length l) 12) (someAbove l) (acceptable l) in
+      (λ e. eqb-false (length l) 12 (row .0 e), λ h. row .1 (ne-eqb (length l) 12 h))
+
+  pub check-5 : (numberOf (checkOf l) ≡ 5) ↔ ((length l ≡ 12) × (someAbove l ≡ true))
+  unfolding checkOf pick
+  check-5 =
+      let row = pick-5 (eqb (length l) 12) (someAbove l) (acceptable l) in
+      (λ e. (eqb-true (length l) 12 (row .0 e .0), row .0 e .1), λ h. row .1 (eq-eqb (length l) 12 (h .0), h .1))
+
+  pub check-9 : (numberOf (checkOf l) ≡ 9) ↔ ((length l ≡ 12) × (someAbove l ≡ false) × (acceptable l ≡ false))
+  unfolding checkOf pick
+  check-9 =
+      let row = pick-9 (eqb (length l) 12) (someAbove l) (acceptable l) in (
+        λ e. (eqb-true (length l) 12 (row .0 e .0), row .0 e .1, row .0 e .2),
+        λ h. row .1 (eq-eqb (length l) 12 (h .0), h .1, h .2),
+      )
+
+  -- an acceptable list has twelve symbols, none above the largest
+  pub check-0 : (numberOf (checkOf l) ≡ 0) ↔ (acceptable l ≡ true)
+  unfolding checkOf pick
+  check-0 =
+      let row = pick-0 (eqb (length l) 12) (someAbove l) (acceptable l) in
+      (λ e. row .0 e .2, λ h. row .1 (eq-eqb (length l) 12 (acceptable-length l h), acceptable-above l h, h))
+
+-- ---------------------------------------------------------------- the ways out of `check`
+
+module _ (l : List ℕ) where
+  pub check-length : (length l ≡ 12 → ⊥) → BadLength ≡ checkOf l
+  unfolding checkOf
+  check-length n = rw (ne-eqb (length l) 12 n)
+
+  pub check-above : length l ≡ 12 → someAbove l ≡ true → BadSymbol ≡ checkOf l
+  unfolding checkOf
+  check-above n a = rw (n, a)
+
+  pub check-fault : length l ≡ 12 → someAbove l ≡ false → rightFrom 0 l ≡ false → NotAcceptable ≡ checkOf l
+  unfolding checkOf
+  check-fault n a r = rw (acceptable-right l, n, a, r)
+
+  pub check-crc : (b : Bool) → length l ≡ 12 → someAbove l ≡ false → rightFrom 0 l ≡ true → crcRight l ≡ b
+      → cond b Done NotAcceptable ≡ checkOf l
+  unfolding checkOf
+  check-crc b n a r c = rw (acceptable-right l, n, a, r, c)

@@ -1,0 +1,87 @@
+-- Which symbol may stand at which place: what `rightAt` says, and that a frame is acceptable where all of its twelve symbols
+-- fit and the CRC is right. `rightFrom` is what the loops over twelve symbols keep.
+--   rightFrom i l   the symbols of l may stand at the places i, i + 1 .. of a frame
+-- Assumes nothing.
+use Prim.Native.Nat.{ℕ, zero, suc, _+_, _≤_, _<_}
+use native.Mathlib.Numerals.{add-one}
+use native.Mathlib.Omega.{arith}
+use mathlib.Core.Bool.{Bool, true, false, not, _&&_, cond, and-assoc, and-comm}
+use mathlib.Core.List.{List, [], _∷_}
+use mathlib.Core.Path.{_≡_, refl, ap, ap₂, sym, _∙_}
+use borrow.Author.Tests.{le-leb, lt-leb, eq-eqb, ne-eqb}
+use lib.Dec.{eqb, eqb·suc-zero}
+use lib.ListN.{length, drop, getD, drop-of-length-le}
+use lib.Seq.{drop-cons}
+use Rattle.frame.specs.Bits.{bits, oddOnes}
+use Rattle.frame.specs.Check.{rightAt}
+use Rattle.frame.specs.Frame.{marked, even, crcRight, noneMarked, allOdd, paritiesRight, acceptable}
+
+-- ---------------------------------------------------------------- one symbol
+
+pub right-marked : (i s : ℕ) → 512 ≤ s → false ≡ rightAt i s
+unfolding rightAt
+right-marked i s h = rw (le-leb 512 s h)
+
+pub right-first : (i s : ℕ) (p : Bool) → s < 512 → i ≡ 0 → p ≡ oddOnes (bits 9 s) → not p ≡ rightAt i s
+unfolding rightAt even
+right-first i s p h e f = rw (lt-leb 512 s h, e, f)
+
+pub right-other : (i s : ℕ) (p : Bool) → s < 512 → (i ≡ 0 → ⊥) → p ≡ oddOnes (bits 9 s) → p ≡ rightAt i s
+unfolding rightAt even
+right-other i s p h e f = rw (lt-leb 512 s h, ne-eqb i 0 e) (twice p ∙ ap (λ (b : Bool). not (not b)) f)
+  where
+    twice : (b : Bool) → b ≡ not (not b)
+    twice true = refl
+    twice false = refl
+
+-- ---------------------------------------------------------------- all of them
+
+unfoldable pub rightFrom : ℕ → List ℕ → Bool
+rightFrom i [] = true
+rightFrom i (s ∷ l) = rightAt i s && rightFrom (suc i) l
+
+-- both tests at the first and both at the others are one test after the other at all
+and-swap : (a b c d : Bool) → (a && b && (c && d)) ≡ (a && c && (b && d))
+and-swap true true c d = and-true-swap c d
+  where
+    and-true-swap : (c d : Bool) → (c && d) ≡ (c && (true && d))
+    and-true-swap true d = refl
+    and-true-swap false d = refl
+and-swap true false true d = refl
+and-swap true false false d = refl
+and-swap false b c d = refl
+
+right-odd : (l : List ℕ) (i : ℕ) → (noneMarked l && allOdd l) ≡ rightFrom (suc i) l
+unfolding noneMarked allOdd rightFrom rightAt
+right-odd [] i = refl
+right-odd (s ∷ l) i =
+    and-swap (not (marked s)) (noneMarked l) (not (even s)) (allOdd l)
+    ∙ ap₂ (λ (b c : Bool). not (marked s) && b && c) (ap (λ (b : Bool). cond b (even s) (not (even s))) (sym (eqb·suc-zero i))) (right-odd l (suc i))
+
+right-all : (l : List ℕ) → (noneMarked l && paritiesRight l) ≡ rightFrom 0 l
+unfolding noneMarked paritiesRight rightFrom rightAt
+right-all [] = refl
+right-all (s ∷ l) =
+    and-swap (not (marked s)) (noneMarked l) (even s) (allOdd l)
+    ∙ ap (λ (b : Bool). not (marked s) && even s && b) (right-odd l 0)
+
+pub acceptable-right : (l : List ℕ) → acceptable l ≡ (eqb (length l) 12 && (rightFrom 0 l && crcRight l))
+unfolding acceptable
+acceptable-right l =
+    ap (λ (b : Bool). eqb (length l) 12 && b)
+    (sym (and-assoc (noneMarked l) (paritiesRight l) (crcRight l)) ∙ ap (λ (b : Bool). b && crcRight l) (right-all l))
+
+-- ---------------------------------------------------------------- a search from the front
+
+module _ (l : List ℕ) (i : ℕ) (h : i < length l) where
+  pub right-fault : rightAt i (getD l i 0) ≡ false → rightFrom i (drop i l) ≡ false
+  unfolding rightFrom
+  right-fault e = rw (drop-cons l i 0 h, e)
+
+  pub right-next : rightAt i (getD l i 0) ≡ true → rightFrom (i + 1) (drop (i + 1) l) ≡ rightFrom i (drop i l)
+  unfolding rightFrom
+  right-next e = rw (add-one, drop-cons l i 0 h, e)
+
+pub right-end : (l : List ℕ) (i : ℕ) → length l ≤ i → rightFrom i (drop i l) ≡ true
+unfolding rightFrom
+right-end l i h = rw (drop-of-length-le l h)

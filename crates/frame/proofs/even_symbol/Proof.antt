@@ -1,0 +1,25 @@
+-- `frame::even_symbol` meets its contract, by the parity of its byte. Assumes nothing.
+use native.Mathlib.Nat.{add-zero}
+use mathlib.Core.Bool.{true, false}
+use mathlib.Core.Path.{sym, _∙_}
+use borrow.Author.Needs.{needs}
+use Rattle.frame.proofs.FrameLaws.{evenSymbol-number}
+use Rattle.frame.proofs.even_symbol.Statement.{statement}
+use Rattle.frame.proofs.even_symbol.Tie as tie
+
+parity-requires : tie.Need-parity-requires
+parity-requires c κs = search needs
+
+add-result : tie.Need-add-result
+add-result c = search needs
+
+returns : tie.Need-returns
+returns c =
+    evenSymbol-number (c .before .before .args .byte) true (c .before .before .fits .byte .fits) (sym (c .if1 .taken) ∙ c .before .parity .ensures)
+
+returns-2 : tie.Need-returns-2
+returns-2 c =
+    sym (add-zero (c .before .before .args .byte)) ∙ evenSymbol-number (c .before .before .args .byte) false (c .before .before .fits .byte .fits) (sym (c .if1 .left) ∙ c .before .parity .ensures)
+
+pub even-symbol-spec : {M : Type 1} → statement M
+even-symbol-spec = tie.close (tie.spec parity-requires add-result returns returns-2)

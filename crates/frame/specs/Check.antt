@@ -1,0 +1,31 @@
+-- The frame check's answer: document 01, "The finder" and "Answer numbers", in the table's order 7, 5, 9.
+--   largest        the largest number that is a received symbol
+--   someAbove l    there is a number above it in l
+--   rightAt i s     the symbol s may stand at place i of a frame: not marked, even at place 0 and odd at any other
+--   checkOf l      the answer of the frame check on the list l
+-- Assumes nothing.
+use Prim.Native.Nat.{ℕ}
+use mathlib.Core.Bool.{Bool, true, false, not, _&&_, _||_, cond}
+use mathlib.Core.List.{List, [], _∷_}
+use lib.Dec.{eqb, ltb}
+use lib.ListN.{length}
+use Rattle.answer.specs.declared.Answer.{Answer}
+use Rattle.answer.specs.declared.Answer.the-variants.{Done, BadSymbol, BadLength, NotAcceptable}
+use Rattle.frame.specs.Frame.{marked, even, acceptable}
+
+abbrev pub largest : ℕ
+largest = 1023
+
+unfoldable pub someAbove : List ℕ → Bool
+someAbove [] = false
+someAbove (s ∷ l) = ltb largest s || someAbove l
+
+unfoldable pub rightAt : ℕ → ℕ → Bool
+rightAt i s = not (marked s) && cond (eqb i 0) (even s) (not (even s))
+
+unfoldable pub checkOf : List ℕ → Answer
+checkOf l =
+    cond (eqb (length l) 12)
+    (cond (someAbove l) BadSymbol
+    (cond (acceptable l) Done NotAcceptable))
+    BadLength

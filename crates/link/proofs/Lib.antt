@@ -1,0 +1,17 @@
+pub mod Words
+pub mod Cells
+pub mod Collecting
+pub mod Way
+pub mod Sent
+pub mod Making
+pub mod Inv
+pub mod SendStep
+pub mod Logs
+pub mod Filled
+pub mod TakeStep
+pub mod SlotStep
+pub mod HostStep
+pub mod Writing
+pub mod Reading
+pub mod Runs
+pub mod Part1

@@ -1,0 +1,1 @@
+// Specs and proofs only: the alternating bit of the OAM channel, over plain bits and numbers.

@@ -16,6 +16,7 @@ ghost use Rattle.end.specs.Taking.{settled, completes, collected, saidBy
 
 // A symbol of 512 or more is marked; none is above 1,023.
 const MARKED: u16 = 512;
+
 const LARGEST: u16 = 1023;
 
 impl End {

@@ -15,3 +15,7 @@ pub mod Writing
 pub mod Reading
 pub mod Runs
 pub mod Part1
+pub mod Progress
+pub mod Arrival
+pub mod SlotProgress
+pub mod Part2

@@ -90,12 +90,12 @@ module _ (e : End) (fine : bad e ≡ false) (shaped : Shaped e) where
     pub acked-is : cond (acked e) (ackd + 1) ackd ≡ he
     acked-is = more (acked e) ackd ∙ acks-is
 
-    first : Sending (length acc) ld he (outOf one)
-    first = stepOne-sending (acked e) (outOf e) (length acc) ld ackd he (holding .sending) acks-is upto
+    pub made-first : Sending (length acc) ld he (outOf (stepOne (acked e) e))
+    made-first = stepOne-sending (acked e) (outOf e) (length acc) ld ackd he (holding .sending) acks-is upto
 
     third : Sending (length acc) (ld + num (loads one)) he (outOf made-end)
     unfolding frameStart
-    third = stepThree-sending (outOf one) (length acc) ld he first
+    third = stepThree-sending (outOf one) (length acc) ld he made-first
 
     valid-is : oldValid made-end ≡ not (made-end .sender .ready)
     unfolding frameStart
@@ -111,7 +111,7 @@ module _ (e : End) (fine : bad e ≡ false) (shaped : Shaped e) where
     sent-is : (l a : Bool) → loads one ≡ l → acked e ≡ a → cond l false (cond a true (e .sender .ready)) ≡ false → getD acc he nothing ≡ cond l (messageOut e) (messageSent e)
     sent-is true a h k p =
         let r : num (one .sender .ready) ≡ 1 = ap num (and-both (e .outbox .pending) (one .sender .ready) h .1) in
-        let f : ld + num (one .sender .ready) ≡ he + 1 = first .loaded in
+        let f : ld + num (one .sender .ready) ≡ he + 1 = made-first .loaded in
         let q : he ≡ ld = omega arith in
         ap (λ (n : ℕ). getD acc n nothing) q ∙ holding .pending (and-both (e .outbox .pending) (one .sender .ready) h .0)
     sent-is false true h k p = absurd (true≢false p)

@@ -16,15 +16,16 @@ use Rattle.endlaws.specs.Shape.{Shaped}
 use Rattle.endlaws.proofs.Shapes.{after-shaped}
 use Rattle.endlaws.proofs.Goods.{after-good}
 use Rattle.protocol.specs.Steps.{num}
+use Rattle.protocol.proofs.Keeps.{loads-must}
 use Rattle.link.specs.Link.{Side, sends}
 use Rattle.link.proofs.Cells.{Frame, Cell, cellAt, frameAt, rank, symbolIn, Stream}
 use Rattle.link.proofs.Collecting.{Sync}
-use Rattle.link.proofs.Way.{Way, DataOk, AckOk}
+use Rattle.link.proofs.Way.{outOf, Way, DataOk, AckOk}
 use Rattle.link.proofs.Sent.{sentAs, sends-as, made, cellSent, stream-push}
-use Rattle.link.proofs.Making.{made-long, made-holding, made-rank, made-data, made-ack, acked-is}
+use Rattle.link.proofs.Making.{made-first, made-long, made-holding, made-rank, made-data, made-ack, acked-is}
 use Rattle.link.proofs.Inv.{Fit, Inv, exchanged, he-loaded, loaded-next, heard-current}
 
-more : (b : Bool) (n : ℕ) → n ≤ cond b (n + 1) n
+pub more : (b : Bool) (n : ℕ) → n ≤ cond b (n + 1) n
 more true n = omega arith
 more false n = omega arith
 
@@ -35,8 +36,7 @@ wider : (x p q r : ℕ) → x ≤ p + q → p ≤ r → x ≤ r + q
 wider x p q r e f = omega arith
 
 -- no new frame: the same one goes on
-module _ (a b : Side) (ca cb : List Cell) (D E pa pb : ℕ) (v : Inv a b ca cb D E pa pb) (t : eqb (a .end .sender .position) 0 ≡ false)
-  (good : bad (sentAs false a .end) ≡ false) (shaped : Shaped (sentAs false a .end)) where
+module _ (a b : Side) (ca cb : List Cell) (D E pa pb : ℕ) (v : Inv a b ca cb D E pa pb) (t : eqb (a .end .sender .position) 0 ≡ false) where
   abbrev c : Cell
   c = record { frame = frameAt ca 0; place = a .end .sender .position }
 
@@ -86,8 +86,8 @@ module _ (a b : Side) (ca cb : List Cell) (D E pa pb : ℕ) (v : Inv a b ca cb D
       acks zero = v .ba .acks 0
       acks (suc i) = v .ba .acks i
 
-  same-sent : Inv (sentAs false a) b (c ∷ ca) cb (suc D) E pa pb
-  same-sent = record {
+  same-sent : bad (sentAs false a .end) ≡ false → Shaped (sentAs false a .end) → Inv (sentAs false a) b (c ∷ ca) cb (suc D) E pa pb
+  same-sent good shaped = record {
     fit-a = record { good = good; shaped = shaped; stream = same-stream; sync = v .fit-a .sync };
     fit-b = v .fit-b;
     ab = same-ab;
@@ -96,8 +96,7 @@ module _ (a b : Side) (ca cb : List Cell) (D E pa pb : ℕ) (v : Inv a b ca cb D
 
 
 -- a new frame is made
-module _ (a b : Side) (ca cb : List Cell) (D E pa pb : ℕ) (v : Inv a b ca cb D E pa pb) (t : eqb (a .end .sender .position) 0 ≡ true)
-  (good : bad (sentAs true a .end) ≡ false) (shaped : Shaped (sentAs true a .end)) where
+module _ (a b : Side) (ca cb : List Cell) (D E pa pb : ℕ) (v : Inv a b ca cb D E pa pb) (t : eqb (a .end .sender .position) 0 ≡ true) where
   abbrev n : Cell
   n = record { frame = made a; place = 0 }
 
@@ -107,8 +106,19 @@ module _ (a b : Side) (ca cb : List Cell) (D E pa pb : ℕ) (v : Inv a b ca cb D
   new-rank : rank (made a) ≡ sentAs true a .acknowledged + sentAs true a .loaded
   new-rank = made-rank (a .end) (v .fit-a .good) (v .fit-a .shaped) (a .accepted) (a .loaded) (a .acknowledged) pa (v .ab .holding) (v .ab .hearing) he≤ (length (a .entered))
 
-  acknowledged-is : cond (acked (a .end)) (a .acknowledged + 1) (a .acknowledged) ≡ pa
+  pub acknowledged-is : cond (acked (a .end)) (a .acknowledged + 1) (a .acknowledged) ≡ pa
   acknowledged-is = acked-is (a .end) (v .fit-a .good) (v .fit-a .shaped) (a .accepted) (a .loaded) (a .acknowledged) pa (v .ab .holding) (v .ab .hearing) he≤
+
+  -- with a message accepted and not acknowledged, it is loaded by now
+  pub new-loads : (k : ℕ) → k ≤ a .acknowledged → k < length (a .accepted) → k < sentAs true a .loaded
+  new-loads k h m = counted (loads (stepOne (acked (a .end)) (a .end)))
+      (loads-must (length (a .accepted)) (a .loaded) pa k (outOf (stepOne (acked (a .end)) (a .end)))
+      (made-first (a .end) (v .fit-a .good) (v .fit-a .shaped) (a .accepted) (a .loaded) (a .acknowledged) pa (v .ab .holding) (v .ab .hearing) he≤)
+      (le-trans h (v .ab .hearing .from)) m)
+    where
+      counted : (l : Bool) → k < a .loaded + num l → k < cond l (a .loaded + 1) (a .loaded)
+      counted true g = g
+      counted false g = omega arith
 
   rank-grows : rank (frameAt ca 0) ≤ rank (made a)
   rank-grows = sums _ _ _ _ _ _ (v .ab .newest) new-rank (more (acked (a .end)) (a .acknowledged)) (more (loads (stepOne (acked (a .end)) (a .end))) (a .loaded))
@@ -160,8 +170,8 @@ module _ (a b : Side) (ca cb : List Cell) (D E pa pb : ℕ) (v : Inv a b ca cb D
       acks zero = made-ack (a .end) (v .fit-a .good) (v .fit-a .shaped) (length (a .entered)) (length (a .taken)) (v .ba .ha) (b .acknowledged) (b .loaded) (a .end .heard .valid) (a .end .heard .toggle) (v .ba .filling .receiving) (heard-current (v .ba) (v .fit-b .stream .ranks)) (v .ba .order) (loaded-next (v .ba)) (made a .acked)
       acks (suc i) = v .ba .acks i
 
-  new-sent : Inv (sentAs true a) b (n ∷ ca) cb (suc D) E pa pb
-  new-sent = record {
+  new-sent : bad (sentAs true a .end) ≡ false → Shaped (sentAs true a .end) → Inv (sentAs true a) b (n ∷ ca) cb (suc D) E pa pb
+  new-sent good shaped = record {
     fit-a = record { good = good; shaped = shaped; stream = new-stream; sync = v .fit-a .sync };
     fit-b = v .fit-b;
     ab = new-ab;

@@ -30,7 +30,7 @@ use Rattle.link.proofs.Inv.{Fit, Inv, exchanged}
 use Rattle.link.proofs.SendStep.{sent-kept}
 use Rattle.link.proofs.TakeStep.{tookAs, takes-as, arrived, took-kept}
 
-getD-symbol : (cs : List Cell) (i : ℕ) → i < length cs → getD (map symbolIn cs) i 0 ≡ symbolIn (cellAt cs i)
+pub getD-symbol : (cs : List Cell) (i : ℕ) → i < length cs → getD (map symbolIn cs) i 0 ≡ symbolIn (cellAt cs i)
 getD-symbol [] i h = absurd (omega arith)
 getD-symbol (c ∷ cs) zero h = refl
 getD-symbol (c ∷ cs) (suc i) h = getD-symbol cs i (omega arith)
@@ -80,7 +80,7 @@ none-kept a b ca cb D E pa pb v h = record {
     same : cellAt ca (suc D) ≡ cellAt ca D
     same = List·getD-eq-default ca none (omega arith) ∙ sym (List·getD-eq-default ca none h)
 
-sent-length : (a : Side) (ca : List Cell) → Stream (a .end) (a .sent) ca → length (a .sent) ≡ length ca
+pub sent-length : (a : Side) (ca : List Cell) → Stream (a .end) (a .sent) ca → length (a .sent) ≡ length ca
 sent-length a ca st = ap length (st .symbols) ∙ length-map ca symbolIn
 
 -- how many had entered when the frame was made that b hears last, after what arrives

@@ -23,7 +23,7 @@ use Rattle.endlaws.proofs.Goods.{Good, good, after-good}
 use Rattle.endlaws.proofs.Done.{take-good}
 use Rattle.protocol.specs.Steps as steps
 use Rattle.protocol.specs.Steps.{num}
-use Rattle.protocol.proofs.Keeps.{num-le, Hearing, Receiving, settle-receiving, enter-receiving, enters-next}
+use Rattle.protocol.proofs.Keeps.{num-le, Hearing, Receiving, enters-must}
 use Rattle.link.specs.Link.{Message, Side, Harm, takes, entersNow, messageIn}
 use Rattle.link.proofs.Words.{said, messageIs}
 use Rattle.link.proofs.Cells.{Frame, Cell, cellAt, frameAt, rank, symbolIn, Stream}
@@ -210,6 +210,18 @@ module _ (a b : Side) (ca cb : List Cell) (D E pa pb : ℕ) (v : Inv a b ca cb (
       frames = v .ba .frames;
       acks = v .ba .acks
       }
+
+  -- a frame that carries message k leaves it entered
+  pub took-entered : (k : ℕ) → accepts s (b .end .collector) ≡ true → k ≤ length (b .taken) → 2 * k + 1 ≤ rank f → k < length (tookAs s b .entered)
+  unfolding taken
+  took-entered k q h r = rw q (subst (λ (n : ℕ). k < n) (sym (longer whole (enters true (saidBy l) (settled (b .end))) refl))
+      (enters-must (length (b .entered)) (length (b .taken)) (v .ab .ha) (f .acked) (b .end .heard .valid) (b .end .heard .toggle)
+      (acked≤ whole _ refl) k (saidBy l .valid) (saidBy l .toggle) (inOf (settled (b .end))) (carries whole _ refl .toggle)
+      (settled-filling (b .end) (b .host) (a .accepted) (b .entered) (b .taken) (v .ab .ha) ha≤ (v .ab .filling) .receiving) h
+      (subst (λ (x : ℕ). 2 * k + 1 ≤ x) (sym (rank-is whole _ refl)) r)))
+    where
+      whole : l ≡ build (f .ten)
+      whole = took .whole q
 
   module _ (fine : bad (taken s (b .end)) ≡ false) (shaped : Shaped (taken s (b .end))) where
     -- by what the two tests gave

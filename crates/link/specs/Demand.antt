@@ -7,6 +7,7 @@
 --   slots        how many slots a list of events has
 --   bound D E    58 + D + E
 --   Through      message n of near is in the far register, or was, and is acknowledged
+--   NothingLost, Delivered   the two parts of demand 3
 -- Assumes nothing.
 use Prim.Native.Nat.{ℕ, suc, _+_, _≤_, _<_}
 use mathlib.Core.Bool.{Bool, true, false, not, cond, _&&_, _||_}
@@ -16,7 +17,7 @@ use lib.Dec.{ltb}
 use lib.ListN.{length}
 use Rattle.end.specs.declared.End.{End}
 use Rattle.end.specs.Sending.{oldNumber, oldBytes}
-use Rattle.link.specs.Link.{Message, Side, World, Harm, sound, mark, Event, slot, atA, atB, messageOut, messageIn, arrives, sends, step, start, run, ruled}
+use Rattle.link.specs.Link.{Message, Side, World, Access, write, acceptsNow, Harm, sound, mark, Event, slot, atA, atB, messageOut, messageIn, arrives, sends, step, start, run, ruled}
 
 abbrev pub held : Bool → Message → List Message
 held b m = cond b (m ∷ []) []
@@ -83,5 +84,33 @@ abbrev pub bound : ℕ → ℕ → ℕ
 bound D E = 58 + D + E
 
 pub record Through (n : ℕ) (m : Message) (near far : Side) : Type 0 where
-  pub entered : (before : List Message) × (after : List Message) × (far .entered ≡ before ++ m ∷ after) × (length before ≡ n)
+  pub entered : (before after : List Message) × (far .entered ≡ before ++ m ∷ after) × (length before ≡ n)
   pub acknowledged : n < near .acknowledged
+
+-- Both ways
+
+pub data Direction : Type 0 where
+  aToB bToA : Direction
+
+abbrev pub near : Direction → World → Side
+near aToB w = w .a
+near bToA w = w .b
+
+abbrev pub far : Direction → World → Side
+far aToB w = w .b
+far bToA w = w .a
+
+abbrev pub atNear : Direction → Access → Event
+atNear aToB c = atA c
+atNear bToA c = atB c
+
+-- Demand 3, second part: a write to 3.2308 is accepted into an idle direction, w being the world before it and x after it; then
+-- after every continuation fs with so many slots, in which nothing that arrives is marked, the message is through
+abbrev pub Delivered : Type 0
+Delivered =
+    (d : Direction) (D E : ℕ) (es : List Event) → ruled D E es start ≡ true
+    → (w : World) → w ≡ run D E es start → Idle (near d w) (far d w)
+    → (v : ℕ) (h : v < 65536) → acceptsNow 2308 v (near d w .end) ≡ true
+    → (x : World) → x ≡ step D E (atNear d (write 2308 v h)) w
+    → (fs : List Event) → ruled D E fs x ≡ true → clear D E fs x ≡ true → bound D E ≤ slots fs
+    → Through (length (near d w .accepted)) (messageOut (near d x .end)) (near d (run D E fs x)) (far d (run D E fs x))

@@ -1,0 +1,98 @@
+-- `End::read` meets its contract. Each arm knows which number the register has. Assumes nothing.
+use mathlib.Core.Path.{refl, sym, subst}
+use borrow.Author.Needs.{needs}
+use Rattle.end.specs.Names.{Names}
+use Rattle.end.specs.Registers.{readOf}
+use Rattle.end.proofs.Laws.{cond-true, told}
+use Rattle.end.proofs.RegisterLaws.{read-done, read-message, read-received, read-outside}
+use Rattle.end.proofs.End.read.Statement.{statement}
+use Rattle.end.proofs.End.read.Tie as tie
+
+bad-requires : tie.Need-bad-requires
+bad-requires c κs = search needs
+
+returns : tie.Need-returns
+unfolding readOf
+returns c = sym (cond-true _ _ (told (c .before .bad .ensures) (c .if1 .taken)))
+
+named-requires : tie.Need-named-requires
+named-requires c κs = search needs
+
+enum-told : tie.Need-enum-told
+enum-told c = search needs
+
+control-requires : tie.Need-control-requires
+control-requires c κs = told (c .before .before .before .before .bad .ensures) (c .before .before .before .if1 .left)
+
+enum-known-name : tie.Need-enum-known-name
+enum-known-name c = search needs
+
+pair-requires : tie.Need-pair-requires
+pair-requires c κs = subst (Names (c .before .before .before .before .before .before .before .args .register)) (c .before .before .name .given .1) (c .before .before .before .before .named .ensures) .1
+
+enum-told-2 : tie.Need-enum-told-2
+enum-told-2 c = search needs
+
+status-requires : tie.Need-status-requires
+status-requires c κs = told (c .before .before .before .before .bad .ensures) (c .before .before .before .if1 .left)
+
+enum-known-name-2 : tie.Need-enum-known-name-2
+enum-known-name-2 c = search needs
+
+pair-requires-2 : tie.Need-pair-requires-2
+pair-requires-2 c κs = subst (Names (c .before .before .before .before .before .before .before .args .register)) (c .before .before .name2 .given .1) (c .before .before .before .before .named .ensures) .1
+
+enum-told-3 : tie.Need-enum-told-3
+enum-told-3 c = search needs
+
+returns-2 : tie.Need-returns-2
+returns-2 c =
+    let e = c .before .before .before .before .before .before .before .args .self in
+    let n = subst (Names (c .before .before .before .before .before .before .before .args .register)) (c .before .before .enum-told .given .1) (c .before .before .before .before .named .ensures) in
+    rw (c .before .control .ensures, n) (sym (read-done e 2308 (told (c .before .before .before .before .before .before .bad .ensures) (c .before .before .before .before .before .if1 .left)) refl))
+
+returns-3 : tie.Need-returns-3
+returns-3 c =
+    let e = c .before .before .before .before .before .before .before .before .args .self in
+    let n = subst (Names (c .before .before .before .before .before .before .before .before .args .register)) (c .before .before .before .name .given .1) (c .before .before .before .before .before .named .ensures) in
+    rw (c .pair .ensures, n .0) (sym (read-message e (c .before .before .before .name .given .0 .0) (told (c .before .before .before .before .before .before .before .bad .ensures) (c .before .before .before .before .before .before .if1 .left)) (n .1)))
+
+returns-4 : tie.Need-returns-4
+returns-4 c =
+    let e = c .before .before .before .before .before .before .args .self in
+    let n = subst (Names (c .before .before .before .before .before .before .args .register)) (c .before .enum-told2 .given .1) (c .before .before .before .named .ensures) in
+    rw (c .status .ensures, n) (sym (read-done e 2313 (told (c .before .before .before .before .before .bad .ensures) (c .before .before .before .before .if1 .left)) refl))
+
+returns-5 : tie.Need-returns-5
+returns-5 c =
+    let e = c .before .before .before .before .before .before .before .before .before .before .args .self in
+    let n = subst (Names (c .before .before .before .before .before .before .before .before .before .before .args .register)) (c .before .before .before .before .before .name2 .given .1) (c .before .before .before .before .before .before .before .named .ensures) in
+    rw (c .before .before .pair2 .ensures, n .0) (sym (read-received e (c .before .before .before .before .before .name2 .given .0 .0) (told (c .before .before .before .before .before .before .before .before .before .bad .ensures) (c .before .before .before .before .before .before .before .before .if1 .left)) (n .1)))
+
+returns-6 : tie.Need-returns-6
+returns-6 c =
+    let e = c .before .before .before .before .before .args .self in
+    let n = subst (Names (c .before .before .before .before .before .args .register)) (c .enum-told3 .given .1) (c .before .before .named .ensures) in
+    sym (read-outside e (c .before .before .before .before .before .args .register) (told (c .before .before .before .before .bad .ensures) (c .before .before .before .if1 .left)) n)
+
+pub read-spec : {M : Type 1} → statement M
+read-spec =
+    tie.close
+    (tie.spec
+    bad-requires
+    returns
+    named-requires
+    enum-told
+    control-requires
+    enum-known-name
+    pair-requires
+    enum-told-2
+    status-requires
+    enum-known-name-2
+    pair-requires-2
+    enum-told-3
+    returns-2
+    returns-3
+    returns-4
+    returns-5
+    returns-6)

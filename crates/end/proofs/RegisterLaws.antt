@@ -1,0 +1,153 @@
+-- Reading and writing a register, register by register.
+--   below-four          a fact of each register of a group of four
+--   outside-*           the numbers outside 3.2308 to 3.2317
+--   read-*, write-*     what readOf and writeOf give, for an end that answer 1 does not meet
+-- Assumes nothing.
+use Prim.Native.Nat.{ℕ, zero, suc, _+_, _≤_, _<_}
+use mathlib.Core.Bool.{Bool, true, false, _&&_}
+use mathlib.Core.Path.{_≡_, refl, _∙_}
+use native.Mathlib.Omega.{arith}
+use lib.Dec.{ltb}
+use borrow.Author.Tests.{lt-ltb, le-ltb}
+use Rattle.answer.specs.declared.Answer.the-variants.{Done, NoRegister, ReadOnly, Blocked}
+use Rattle.end.specs.declared.End.{End}
+use Rattle.end.specs.Good.{bad}
+use Rattle.end.specs.Registers.{outside, readOnly, pair, valueOf, readEnd, readOf, blocked, writeBytes, written, writeOf}
+use Rattle.end.proofs.Laws.{cond-true, cond-false, and-yes, and-no}
+
+pub below-four : (P : ℕ → Type 0) → P 0 → P 1 → P 2 → P 3 → (i : ℕ) → i < 4 → P i
+below-four P a b c d zero h = a
+below-four P a b c d (suc zero) h = b
+below-four P a b c d (suc (suc zero)) h = c
+below-four P a b c d (suc (suc (suc zero))) h = d
+below-four P a b c d (suc (suc (suc (suc i)))) h = absurd (omega arith)
+
+pub outside-below : (r : ℕ) → r < 2308 → outside r ≡ true
+outside-below r h = rw (lt-ltb r 2308 h)
+
+pub outside-beyond : (r : ℕ) → 2317 < r → outside r ≡ true
+outside-beyond r h = rw (le-ltb r 2308 (omega arith), lt-ltb 2317 r h)
+
+-- Reading
+
+pub read-done : (e : End) (r : ℕ) → bad e ≡ false → outside r ≡ false →
+    readOf e r ≡ record { answer = Done; value = valueOf e r; end = readEnd e r }
+unfolding readOf
+read-done e r b o = cond-false _ _ b ∙ cond-false _ _ o
+
+pub read-outside : (e : End) (r : ℕ) → bad e ≡ false → outside r ≡ true →
+    readOf e r ≡ record { answer = NoRegister; value = 0; end = e }
+unfolding readOf
+read-outside e r b o = cond-false _ _ b ∙ cond-true _ _ o
+
+pub read-message : (e : End) (i : ℕ) → bad e ≡ false → i < 4 →
+    readOf e (2309 + i) ≡ record { answer = Done; value = pair (e .outbox .bytes) i; end = e }
+read-message e i b =
+    below-four
+    (λ (i : ℕ). readOf e (2309 + i) ≡ record { answer = Done; value = pair (e .outbox .bytes) i; end = e })
+    (read-done e 2309 b refl)
+    (read-done e 2310 b refl)
+    (read-done e 2311 b refl)
+    (read-done e 2312 b refl)
+    i
+
+-- reading 3.2317 makes the receive register empty
+abbrev pub emptied : Bool → End → End
+emptied kept e = record {
+  sender = e .sender;
+  outbox = e .outbox;
+  collector = e .collector;
+  heard = e .heard;
+  inbox = record {
+    expected = e .inbox .expected;
+    acknowledge = e .inbox .acknowledge;
+    full = kept && e .inbox .full;
+    toggle = e .inbox .toggle;
+    number = e .inbox .number;
+    bytes = e .inbox .bytes;
+  };
+}
+
+pub read-received : (e : End) (i : ℕ) → bad e ≡ false → i < 4 →
+    readOf e (2314 + i) ≡ record { answer = Done; value = pair (e .inbox .bytes) i; end = emptied (ltb i 3) e }
+read-received e i b =
+    below-four
+    (λ (i : ℕ).
+    readOf e (2314 + i) ≡ record { answer = Done; value = pair (e .inbox .bytes) i; end = emptied (ltb i 3) e })
+    (read-done e 2314 b refl)
+    (read-done e 2315 b refl)
+    (read-done e 2316 b refl)
+    (read-done e 2317 b refl)
+    i
+
+-- Writing
+
+pub write-done : (e : End) (r v : ℕ) → bad e ≡ false → outside r ≡ false → readOnly r ≡ false → blocked e r v ≡ false →
+    writeOf e r v ≡ record { answer = Done; end = written e r v }
+unfolding writeOf
+write-done e r v b o n k = cond-false _ _ b ∙ (cond-false _ _ o ∙ (cond-false _ _ n ∙ cond-false _ _ k))
+
+pub write-blocked : (e : End) (r v : ℕ) → bad e ≡ false → outside r ≡ false → readOnly r ≡ false → blocked e r v ≡ true →
+    writeOf e r v ≡ record { answer = Blocked; end = e }
+unfolding writeOf
+write-blocked e r v b o n k = cond-false _ _ b ∙ (cond-false _ _ o ∙ (cond-false _ _ n ∙ cond-true _ _ k))
+
+pub write-only : (e : End) (r v : ℕ) → bad e ≡ false → outside r ≡ false → readOnly r ≡ true →
+    writeOf e r v ≡ record { answer = ReadOnly; end = e }
+unfolding writeOf
+write-only e r v b o n = cond-false _ _ b ∙ (cond-false _ _ o ∙ cond-true _ _ n)
+
+pub write-outside : (e : End) (r v : ℕ) → bad e ≡ false → outside r ≡ true →
+    writeOf e r v ≡ record { answer = NoRegister; end = e }
+unfolding writeOf
+write-outside e r v b o = cond-false _ _ b ∙ cond-true _ _ o
+
+pub write-message : (e : End) (i v : ℕ) → bad e ≡ false → e .outbox .pending ≡ false → i < 4 →
+    writeOf e (2309 + i) v ≡ record {
+      answer = Done;
+      end = record {
+        sender = e .sender;
+        outbox = writeBytes (e .outbox) i v;
+        collector = e .collector;
+        heard = e .heard;
+        inbox = e .inbox;
+      };
+    }
+write-message e i v b p =
+    below-four
+    (λ (i : ℕ).
+    writeOf e (2309 + i) v ≡ record {
+      answer = Done;
+      end = record {
+        sender = e .sender;
+        outbox = writeBytes (e .outbox) i v;
+        collector = e .collector;
+        heard = e .heard;
+        inbox = e .inbox;
+      };
+    })
+    (write-done e 2309 v b refl refl (and-no _ p))
+    (write-done e 2310 v b refl refl (and-no _ p))
+    (write-done e 2311 v b refl refl (and-no _ p))
+    (write-done e 2312 v b refl refl (and-no _ p))
+    i
+
+pub write-full : (e : End) (i v : ℕ) → bad e ≡ false → e .outbox .pending ≡ true → i < 4 →
+    writeOf e (2309 + i) v ≡ record { answer = Blocked; end = e }
+write-full e i v b p =
+    below-four (λ (i : ℕ). writeOf e (2309 + i) v ≡ record { answer = Blocked; end = e })
+    (write-blocked e 2309 v b refl refl (and-yes _ p))
+    (write-blocked e 2310 v b refl refl (and-yes _ p))
+    (write-blocked e 2311 v b refl refl (and-yes _ p))
+    (write-blocked e 2312 v b refl refl (and-yes _ p))
+    i
+
+pub write-received : (e : End) (i v : ℕ) → bad e ≡ false → i < 4 →
+    writeOf e (2314 + i) v ≡ record { answer = ReadOnly; end = e }
+write-received e i v b =
+    below-four (λ (i : ℕ). writeOf e (2314 + i) v ≡ record { answer = ReadOnly; end = e })
+    (write-only e 2314 v b refl refl)
+    (write-only e 2315 v b refl refl)
+    (write-only e 2316 v b refl refl)
+    (write-only e 2317 v b refl refl)
+    i

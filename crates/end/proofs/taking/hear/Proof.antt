@@ -1,0 +1,19 @@
+-- `taking::hear` meets its contract. What was heard at the known test is the definition at it. Assumes nothing.
+use mathlib.Core.Bool.{Bool}
+use mathlib.Core.Path.{sym, ap, _∙_}
+use borrow.Author.Needs.{needs}
+use Rattle.end.specs.Taking.{saidBy, pickHeard}
+use Rattle.end.proofs.taking.hear.Statement.{statement}
+use Rattle.end.proofs.taking.hear.Tie as tie
+
+said-by-requires : tie.Need-said-by-requires
+said-by-requires c κs = search needs
+
+returns : tie.Need-returns
+returns c = c .said-by .ensures ∙ ap (λ (b : Bool). pickHeard b (saidBy (c .before .before .args .symbols)) (c .before .before .args .last)) (sym (c .before .if1 .taken))
+
+returns-2 : tie.Need-returns-2
+returns-2 c = ap (λ (b : Bool). pickHeard b (saidBy (c .before .args .symbols)) (c .before .args .last)) (sym (c .if1 .left))
+
+pub hear-spec : {M : Type 1} → statement M
+hear-spec = tie.close (tie.spec said-by-requires returns returns-2)

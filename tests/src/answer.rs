@@ -1,0 +1,21 @@
+//! Document 01, "Answer numbers".
+
+#[derive(Clone, Copy, Debug, PartialEq, Eq)]
+pub enum Answer {
+    Done = 0,
+    BadEnd = 1,
+    NoRegister = 2,
+    ReadOnly = 3,
+    Blocked = 4,
+    BadSymbol = 5,
+    BadHealth = 6,
+    BadLength = 7,
+    NotFound = 8,
+    NotAcceptable = 9,
+}
+
+impl Answer {
+    pub fn number(self) -> u8 {
+        self as u8
+    }
+}

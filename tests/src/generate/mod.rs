@@ -1,0 +1,41 @@
+//! Random scripts, each made from its seed alone.
+
+mod ends;
+mod finder;
+mod frames;
+mod lines;
+mod links;
+
+pub use ends::{ends, good_limit};
+pub use finder::{captures, noise};
+pub use frames::{data_bytes, frames};
+pub use lines::lines;
+pub use links::links;
+
+use crate::random::Random;
+use crate::script::Script;
+
+/// A kind of script: from a seed and about how many lines are wanted.
+pub type Kind = fn(u64, usize) -> Script;
+
+pub const KINDS: [(&str, Kind); 5] =
+    [("frames", frames), ("captures", captures), ("ends", ends), ("links", links), ("lines", lines)];
+
+const SIDES: [&str; 2] = ["a", "b"];
+
+/// A script and where its choices come from.
+struct Writer {
+    script: Script,
+    random: Random,
+}
+
+impl Writer {
+    fn new(seed: u64) -> Writer {
+        Writer { script: Script::new(seed), random: Random::new(seed) }
+    }
+
+    fn dump_both(&mut self) {
+        self.script.say(format_args!("a dump"));
+        self.script.say(format_args!("b dump"));
+    }
+}

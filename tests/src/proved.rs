@@ -1,0 +1,40 @@
+//! Runs the proved program.
+
+use std::env;
+use std::io::Write;
+use std::path::PathBuf;
+use std::process::{Child, Command, ExitStatus, Stdio};
+use std::thread;
+
+/// Names the program to be tested; a relative path is seen from this package.
+const PROGRAM: &str = "SIMHADOL_BENCH";
+const DEFAULT_PROGRAM: &str = "../target/bin/bench";
+
+fn path() -> PathBuf {
+    let package = PathBuf::from(env!("CARGO_MANIFEST_DIR"));
+    package.join(env::var_os(PROGRAM).unwrap_or_else(|| DEFAULT_PROGRAM.into()))
+}
+
+/// Starts the program with its input and output in our hands.
+pub fn start() -> Result<Child, String> {
+    let path = path();
+    Command::new(&path)
+        .stdin(Stdio::piped())
+        .stdout(Stdio::piped())
+        .spawn()
+        .map_err(|why| format!("the proved program {} cannot be run: {} ({} names it)", path.display(), why, PROGRAM))
+}
+
+/// What the program prints for `input`, and how it ended.
+pub fn run(input: &[u8]) -> Result<(Vec<u8>, ExitStatus), String> {
+    let mut child = start()?;
+    let mut stdin = child.stdin.take().ok_or("no standard input")?;
+    // The input is written beside the reading, as neither pipe holds a whole script. A program that stops reading
+    // shows by its output and status, so a failed write says nothing more.
+    let output = thread::scope(|scope| {
+        scope.spawn(move || stdin.write_all(input));
+        child.wait_with_output()
+    });
+    let output = output.map_err(|why| why.to_string())?;
+    Ok((output.stdout, output.status))
+}

@@ -1,0 +1,102 @@
+//! The finder: captures of every kind, and the places and lengths at the edges.
+
+use crate::{compare, compare_random, seed, tell};
+use second::frame::build;
+use second::generate::{captures, data_bytes, noise};
+use second::random::Random;
+use second::script::Script;
+use std::time::Instant;
+
+#[test]
+fn random_captures() {
+    compare_random("finder", captures, 10, 20_000);
+}
+
+/// A capture without a frame, but for one at `place` where it fits.
+fn with_frame(length: usize, place: usize, random: &mut Random) -> Vec<u16> {
+    let mut list = noise(length, random);
+    let frame = build(&data_bytes(random));
+    list.iter_mut().skip(place).zip(frame).for_each(|(symbol, sound)| *symbol = sound);
+    list
+}
+
+#[test]
+fn every_place() {
+    let start = Instant::now();
+    let mut random = Random::new(seed());
+    let mut script = Script::new(seed());
+    for length in [12, 13, 24, 100, 300] {
+        for place in 0..=length - 12 {
+            script.say_list("find", &with_frame(length, place, &mut random));
+            assert_eq!(script.last_answer(), format!("0 {} 12", place).as_bytes());
+        }
+    }
+    compare("finder, every place", &script);
+    tell("finder, every place", script.lines, "lines", start);
+}
+
+#[test]
+fn lengths_and_values() {
+    let start = Instant::now();
+    let mut random = Random::new(seed());
+    let mut script = Script::new(seed());
+    for length in [0, 11, 12, 13, 4094, 4095, 4096, 4097, 5000] {
+        say_length(&mut script, length, &mut random);
+        for value in [1023, 1024, 65535] {
+            for place in [0, length / 2, length.saturating_sub(1)] {
+                let mut list = with_frame(length, 0, &mut random);
+                list.iter_mut().skip(place).take(1).for_each(|symbol| *symbol = value);
+                script.say_list("find", &list);
+            }
+        }
+    }
+    compare("finder, lengths", &script);
+    tell("finder, lengths", script.lines, "lines", start);
+}
+
+/// No frame, one at either end, and one cut short by the end of the list.
+fn say_length(script: &mut Script, length: usize, random: &mut Random) {
+    let last = length.saturating_sub(12);
+    for (place, fits) in [(length, false), (0, length >= 12), (last, length >= 12), (last + 1, false)] {
+        script.say_list("find", &with_frame(length, place, random));
+        let answer = match (length > 4096, fits) {
+            (true, _) => "7 0 0".to_string(),
+            (false, true) => format!("0 {} 12", place),
+            (false, false) => "8 0 0".to_string(),
+        };
+        assert_eq!(script.last_answer(), answer.as_bytes(), "length {}, place {}", length, place);
+    }
+}
+
+/// A value above 1,023 refuses the whole list, also after a good frame.
+#[test]
+fn too_large_after_a_good_frame() {
+    let mut script = Script::new(0);
+    let frame = build(&[0; 10]);
+    for (value, answer) in [(1023, "0 0 12"), (1024, "5 0 0"), (65535, "5 0 0")] {
+        let mut list = frame.to_vec();
+        list.push(value);
+        script.say_list("find", &list);
+        assert_eq!(script.last_answer(), answer.as_bytes());
+    }
+    compare("finder, too large", &script);
+}
+
+/// A frame that begins before another has ended is found, whatever the first lacks.
+#[test]
+fn overlapping_candidates() {
+    let start = Instant::now();
+    let mut random = Random::new(seed());
+    let mut script = Script::new(seed());
+    for cut in 1..12 {
+        for _ in 0..50 {
+            let (first, then) = (build(&data_bytes(&mut random)), build(&data_bytes(&mut random)));
+            script.say_list("find", &[&first[..cut], &then].concat());
+            assert_eq!(script.last_answer(), format!("0 {} 12", cut).as_bytes());
+            script.say_list("find", &[&first, &then[cut..]].concat());
+            assert_eq!(script.last_answer(), b"0 0 12");
+        }
+    }
+    compare("finder, overlapping", &script);
+    tell("finder, overlapping", script.lines, "lines", start);
+}

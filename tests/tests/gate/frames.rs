@@ -1,0 +1,26 @@
+//! Frames built and checked.
+
+use crate::{compare_random, seed, tell};
+use second::answer::Answer;
+use second::frame::{build, check};
+use second::generate::{data_bytes, frames};
+use second::random::Random;
+use std::time::Instant;
+
+#[test]
+fn random_and_damaged() {
+    compare_random("frames", frames, 12, 100_000);
+}
+
+/// Demand 2 on the second implementation: what is built is accepted.
+#[test]
+fn built_is_accepted() {
+    let start = Instant::now();
+    let mut random = Random::new(seed());
+    let count = 100_000;
+    for _ in 0..count {
+        let data = data_bytes(&mut random);
+        assert_eq!(check(&build(&data)), Answer::Done, "{:?}", data);
+    }
+    tell("frames, built is accepted", count, "frames", start);
+}

@@ -1,0 +1,60 @@
+//! The proved program against the second implementation, and both against document 01.
+//!
+//! SIMHADOL_BENCH names the program, SIMHADOL_SEED the first seed.
+
+mod cases;
+mod console;
+mod crc;
+mod demand3;
+mod ends;
+mod faults;
+mod finder;
+mod frames;
+mod links;
+mod vectors;
+
+use second::generate::Kind;
+use second::proved;
+use second::script::Script;
+use std::env;
+use std::io::Write;
+use std::time::Instant;
+
+fn seed() -> u64 {
+    match env::var("SIMHADOL_SEED") {
+        Ok(text) => text.parse().expect("SIMHADOL_SEED is a decimal number"),
+        Err(_) => 1,
+    }
+}
+
+/// Says seed, count and time of a test that passed. It writes to the stream itself, as the test runner keeps back what
+/// is printed.
+fn tell(name: &str, count: usize, what: &str, start: Instant) {
+    let line = format!("{}: seed {}, {} {}, {:.1} s\n", name, seed(), count, what, start.elapsed().as_secs_f64());
+    std::io::stderr().write_all(line.as_bytes()).expect("standard error takes a line");
+}
+
+/// What the proved program prints, having ended well.
+fn proved_prints(script: &[u8]) -> Vec<u8> {
+    let (printed, status) = proved::run(script).unwrap_or_else(|why| panic!("{}", why));
+    assert!(status.success(), "the proved program ended with {}", status);
+    printed
+}
+
+fn compare(name: &str, script: &Script) {
+    script.compare().unwrap_or_else(|why| panic!("{}: {}", name, why));
+}
+
+/// So many random scripts of a kind, each with its own seed. Gives how many calls on ends they had.
+fn compare_random(name: &str, kind: Kind, scripts: u64, lines: usize) -> usize {
+    let start = Instant::now();
+    let (mut count, mut calls) = (0, 0);
+    for seed in seed()..seed() + scripts {
+        let script = kind(seed, lines);
+        compare(name, &script);
+        count += script.lines;
+        calls += script.calls;
+    }
+    tell(name, count, &format!("lines with {} calls on ends", calls), start);
+    calls
+}

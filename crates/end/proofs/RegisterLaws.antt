@@ -12,7 +12,8 @@ use borrow.Author.Tests.{lt-ltb, le-ltb}
 use Rattle.answer.specs.declared.Answer.the-variants.{Done, NoRegister, ReadOnly, Blocked}
 use Rattle.end.specs.declared.End.{End}
 use Rattle.end.specs.Good.{bad}
-use Rattle.end.specs.Registers.{outside, readOnly, pair, valueOf, readEnd, readOf, blocked, writeBytes, written, writeOf}
+use Rattle.end.specs.Registers.{outside, readOnly, pair, valueOf, readEnd, readOf}
+use Rattle.end.specs.Registers.{blocked, writeBytes, written, writeOf}
 use Rattle.end.proofs.Laws.{cond-true, cond-false, and-yes, and-no}
 
 pub below-four : (P : ℕ → Type 0) → P 0 → P 1 → P 2 → P 3 → (i : ℕ) → i < 4 → P i
@@ -82,13 +83,13 @@ read-received e i b =
 
 -- Writing
 
-pub write-done : (e : End) (r v : ℕ) → bad e ≡ false → outside r ≡ false → readOnly r ≡ false → blocked e r v ≡ false →
-    writeOf e r v ≡ record { answer = Done; end = written e r v }
+pub write-done : (e : End) (r v : ℕ) → bad e ≡ false → outside r ≡ false → readOnly r ≡ false
+    → blocked e r v ≡ false → writeOf e r v ≡ record { answer = Done; end = written e r v }
 unfolding writeOf
 write-done e r v b o n k = cond-false _ _ b ∙ (cond-false _ _ o ∙ (cond-false _ _ n ∙ cond-false _ _ k))
 
-pub write-blocked : (e : End) (r v : ℕ) → bad e ≡ false → outside r ≡ false → readOnly r ≡ false → blocked e r v ≡ true →
-    writeOf e r v ≡ record { answer = Blocked; end = e }
+pub write-blocked : (e : End) (r v : ℕ) → bad e ≡ false → outside r ≡ false → readOnly r ≡ false
+    → blocked e r v ≡ true → writeOf e r v ≡ record { answer = Blocked; end = e }
 unfolding writeOf
 write-blocked e r v b o n k = cond-false _ _ b ∙ (cond-false _ _ o ∙ (cond-false _ _ n ∙ cond-true _ _ k))
 

@@ -1,5 +1,5 @@
-// One end of the OAM channel, document 01: a struct by value of parts. Each call takes the old end and gives the next one
-// with its answer; any record may come in, and one that answer 1 meets comes back as it was.
+// One end of the OAM channel, document 01: a struct by value of parts. Each call takes the old end and gives the next
+// one with its answer; any record may come in, and one that answer 1 meets comes back as it was.
 mod good;
 mod message;
 mod reading;

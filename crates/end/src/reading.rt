@@ -14,7 +14,8 @@ ghost use Rattle.end.specs.Good.{bad};
 ghost use Rattle.end.specs.Registers.{pair, control, status, readOf};
 
 impl End {
-    // A register's value. Reading 3.2308 clears Received, after giving it; reading 3.2317 makes the receive register empty.
+    // A register's value. Reading 3.2308 clears Received, after giving it; reading 3.2317 makes the receive register
+    // empty.
     pub fn read(mut self, register: u16) -> Got
         ensures { λ r. ⌜ r ≡ readOf self register ⌝ }
     {
@@ -73,8 +74,8 @@ impl End {
     }
 }
 
-// 3.2308: 15 pending, 14 register toggle, 13 Received, 12 received toggle, 11:8 number, 3 PingRx got, 2 PingTx, 1:0 health
-// as loaded at the last frame start.
+// 3.2308: 15 pending, 14 register toggle, 13 Received, 12 received toggle, 11:8 number, 3 PingRx got, 2 PingTx, 1:0
+// health as loaded at the last frame start.
 fn control(end: End) -> u16
     requires { ⌜ bad end ≡ false ⌝ }
     ensures { λ r. ⌜ r ≡ control end ⌝ }

@@ -12,7 +12,8 @@ ghost use mathlib.Core.Bool.{false, _&&_};
 ghost use Prim.Native.Nat.{_≤_};
 ghost use Rattle.frame.specs.Frame.{crcRight};
 ghost use Rattle.end.specs.Good.{bad};
-ghost use Rattle.end.specs.Taking.{settled, completes, collected, saidBy, pickHeard, enters, entered, taken, takeOf};
+ghost use Rattle.end.specs.Taking.{settled, completes, collected, saidBy, pickHeard, enters, entered};
+ghost use Rattle.end.specs.Taking.{taken, takeOf};
 
 // A symbol of 512 or more is marked; none is above 1,023.
 const MARKED: u16 = 512;
@@ -63,8 +64,8 @@ fn taken(symbol: u16, mut end: End) -> End
     end
 }
 
-// Step 1. If the last accepted frame had Valid 0, or the acknowledge is 0, then expected toggle takes that frame's Toggle
-// and the acknowledge becomes 0.
+// Step 1. If the last accepted frame had Valid 0, or the acknowledge is 0, then expected toggle takes that frame's
+// Toggle and the acknowledge becomes 0.
 fn settle(end: End) -> Inbox
     ensures { λ r. ⌜ r ≡ settled end ⌝ }
 {
@@ -78,8 +79,8 @@ fn settle(end: End) -> Inbox
     inbox
 }
 
-// Step 2, and the emptying of step 3. A marked symbol empties the collection; an even one starts a new one; an odd one is
-// added if the collection is not empty, and as the twelfth it empties it.
+// Step 2, and the emptying of step 3. A marked symbol empties the collection; an even one starts a new one; an odd one
+// is added if the collection is not empty, and as the twelfth it empties it.
 fn collect(symbol: u16, mut collector: Collector) -> Collector
     requires { ⌜ collector .count ≤ 11 ⌝ }
     ensures { λ r. ⌜ r ≡ collected symbol collector ⌝ }
@@ -159,10 +160,11 @@ fn enter(accepted: bool, symbols: [u16; 12], mut inbox: Inbox) -> Inbox
     if enters(accepted, said, inbox) {
         let one = symbols[1];
         let bytes = message_of(symbols);
-        inbox.expected = !said.toggle;
+        let toggle = said.toggle;
+        inbox.expected = !toggle;
         inbox.acknowledge = true;
         inbox.full = true;
-        inbox.toggle = said.toggle;
+        inbox.toggle = toggle;
         inbox.number = (one % 16) as u8;
         inbox.bytes = bytes;
         return inbox;

@@ -1,18 +1,19 @@
--- What `acceptable` says, part by part, and the way back; and an acceptable frame is the build of its own ten data bytes.
--- Assumes nothing.
-use Prim.Native.Nat.{ℕ, zero, suc, _+_, _*_, _/_, _%_, _^_, _≤_, _<_}
-use native.Mathlib.Nat.{le-of-suc-le-suc, suc-inj}
+-- What `acceptable` says, part by part, and the way back; and an acceptable frame is the build of its own ten data
+-- bytes. Assumes nothing.
+use Prim.Native.Nat.{ℕ, zero, suc, _+_, _*_, _/_, _%_, _≤_, _<_}
+use native.Mathlib.Nat.{le-of-suc-le-suc}
 use native.Mathlib.Omega.{arith}
-use mathlib.Core.Bool.{Bool, true, false, not, xor, _&&_, true≢false, cond}
+use mathlib.Core.Bool.{Bool, true, false, not, xor, _&&_, true≢false, cond, Bool·not-not}
 use mathlib.Core.List.{List, [], _∷_, _++_, map}
 use mathlib.Core.Path.{_≡_, refl, ap, ap₂, sym, _∙_}
-use borrow.Author.Tests.{eqb-true, eq-eqb, leb-false, lt-leb, not-true}
+use borrow.Author.Tests.{eqb-true, leb-false, lt-leb, not-true}
 use lib.Dec.{eqb, lit<, lit≤}
 use lib.ListN.{length, take, drop, getD, length-map, take-append-drop, drop-of-length-le}
 use lib.Seq.{drop-cons}
 use Rattle.frame.specs.Bits.{odd, bits, number, oddOnes}
-use Rattle.frame.specs.Frame.{crcOf, dataOf, marked, even, evenSymbol, oddSymbol, symbols, build, crcRight, noneMarked, allOdd, paritiesRight, acceptable}
-use Rattle.frame.proofs.BitsLaws.{number-bits, bits-mod, oddOnes-append}
+use Rattle.frame.specs.Frame.{crcOf, dataOf, marked, even, evenSymbol, oddSymbol, symbols, build, crcRight}
+use Rattle.frame.specs.Frame.{noneMarked, allOdd, paritiesRight, acceptable}
+use Rattle.frame.proofs.BitsLaws.{xor-false, number-bits, bits-mod, oddOnes-append}
 use Rattle.frame.proofs.FrameLaws.{data-at, crcBytes, build-symbols}
 
 and-both : (a b : Bool) → (a && b) ≡ true → (a ≡ true) × (b ≡ true)
@@ -88,7 +89,8 @@ unfolding allOdd
 all-odd-from [] h = refl
 all-odd-from (x ∷ s) h = rw (h 0 (omega arith)) (all-odd-from s (λ i p. h (suc i) (omega arith)))
 
-parities-from : (s : List ℕ) → even (getD s 0 0) ≡ true → ((i : ℕ) → 0 < i → i < length s → even (getD s i 0) ≡ false) → paritiesRight s ≡ true
+parities-from : (s : List ℕ) → even (getD s 0 0) ≡ true
+    → ((i : ℕ) → 0 < i → i < length s → even (getD s i 0) ≡ false) → paritiesRight s ≡ true
 unfolding paritiesRight
 parities-from [] f h = refl
 parities-from (x ∷ s) f h = rw f (all-odd-from s (λ i p. h (suc i) (omega arith) (omega arith)))
@@ -112,15 +114,9 @@ nine-bits x = refl
 
 pub even-top : (x : ℕ) → not (even x) ≡ xor (oddOnes (bits 8 x)) (top x)
 unfolding even oddOnes xor
-even-top x = twice (oddOnes (bits 9 x)) ∙ ap oddOnes (nine-bits x) ∙ oddOnes-append (bits 8 x) (top x ∷ []) ∙ ap (xor (oddOnes (bits 8 x))) (last (top x))
-  where
-    twice : (b : Bool) → not (not b) ≡ b
-    twice true = refl
-    twice false = refl
-
-    last : (b : Bool) → xor b false ≡ b
-    last true = refl
-    last false = refl
+even-top x =
+    Bool·not-not (oddOnes (bits 9 x)) ∙ ap oddOnes (nine-bits x) ∙ oddOnes-append (bits 8 x) (top x ∷ [])
+    ∙ ap (xor (oddOnes (bits 8 x))) (xor-false (top x))
 
 -- two bits whose exclusive or is known
 xor-is : (a b c : Bool) → not c ≡ xor a b → b ≡ cond c a (not a)
@@ -177,7 +173,8 @@ with-crc : (l : List ℕ) → length l ≡ 12 → crcOf (take 10 l) ≡ getD l 1
 unfolding crcBytes
 with-crc l n e h =
     ap (λ (t : List ℕ). take 10 l ++ t)
-    (ap₂ (λ (a b : ℕ). a ∷ b ∷ []) (low _ _ _ e h) (high _ _ _ e h) ∙ sym (two (rw n (lit< tt)) (rw n (lit< tt)) (rw n (lit≤ tt))))
+    (ap₂ (λ (a b : ℕ). a ∷ b ∷ []) (low _ _ _ e h) (high _ _ _ e h)
+    ∙ sym (two (rw n (lit< tt)) (rw n (lit< tt)) (rw n (lit≤ tt))))
     ∙ take-append-drop 10 l
   where
     low : (c a b : ℕ) → c ≡ a + 256 * b → a < 256 → c % 256 ≡ a
@@ -189,14 +186,16 @@ with-crc l n e h =
     two : 10 < length l → 11 < length l → length l ≤ 12 → drop 10 l ≡ getD l 10 0 ∷ getD l 11 0 ∷ []
     two h₁ h₂ h₃ =
         drop-cons l 10 0 h₁
-        ∙ ap (λ (t : List ℕ). getD l 10 0 ∷ t) (drop-cons l 11 0 h₂ ∙ ap (λ (t : List ℕ). getD l 11 0 ∷ t) (drop-of-length-le l h₃))
+        ∙ ap (λ (t : List ℕ). getD l 10 0 ∷ t) (drop-cons l 11 0 h₂
+        ∙ ap (λ (t : List ℕ). getD l 11 0 ∷ t) (drop-of-length-le l h₃))
 
 pub acceptable-build : (s : List ℕ) → acceptable s ≡ true → s ≡ build (take 10 (map dataOf s))
 unfolding crcRight
 acceptable-build s e =
     sym
     (build-symbols (take 10 (map dataOf s))
-    ∙ ap symbols (with-crc (map dataOf s) (length-map s dataOf ∙ acceptable-length s e) right (rw (← data-at) (small (getD s 10 0))))
+    ∙ ap symbols (with-crc (map dataOf s) (length-map s dataOf ∙ acceptable-length s e) right
+    (rw (← data-at) (small (getD s 10 0))))
     ∙ symbols-again s (tests s e .unmarked) (tests s e .parities))
   where
     right : crcOf (take 10 (map dataOf s)) ≡ getD (map dataOf s) 10 0 + 256 * getD (map dataOf s) 11 0

@@ -1,11 +1,12 @@
--- Laws of Bits.antt, in its order: exclusive or, the bits of a number, the number of bits, and whether their ones are odd.
--- Assumes nothing.
+-- Laws of Bits.antt, in its order: exclusive or, the bits of a number, the number of bits, and whether their ones
+-- are odd. Assumes nothing.
 use Prim.Native.Nat.{ℕ, zero, suc, _+_, _*_, _/_, _%_, _^_, _<_}
-use native.Mathlib.Nat.{mul-assoc, mul-comm, pow-zero, pow-suc, pow-succ', mod-one, mod-lt, one-mul, zero-add, suc-add, div-one, div-eq-of-lt, div-div-eq-div-mul}
+use native.Mathlib.Nat.{mul-assoc, pow-suc, pow-succ', mod-one, mod-lt, one-mul, zero-add, suc-add, div-one}
+use native.Mathlib.Nat.{div-eq-of-lt, div-div-eq-div-mul}
 use native.Mathlib.Omega.{arith}
-use mathlib.Core.Bool.{Bool, true, false, not, cond, xor}
+use mathlib.Core.Bool.{Bool, true, false, not, cond, xor, _&&_}
 use mathlib.Core.List.{List, [], _∷_, _++_}
-use mathlib.Core.Path.{_≡_, refl, ap, ap₂, sym, _∙_, subst}
+use mathlib.Core.Path.{_≡_, refl, ap, ap₂, sym, _∙_}
 use borrow.Author.Tests.{eq-eqb, ne-eqb}
 use lib.Dec.{eqb}
 use lib.Bits.{differ, bitXor, xor-step}
@@ -34,10 +35,25 @@ xor-comm true false = refl
 xor-comm false true = refl
 xor-comm false false = refl
 
+pub xor-swap : (a b c d : Bool) → xor (xor a b) (xor c d) ≡ xor (xor a c) (xor b d)
+xor-swap a b c d =
+    xor-assoc a b (xor c d)
+    ∙ ap (xor a) (sym (xor-assoc b c d) ∙ ap (λ (x : Bool). xor x d) (xor-comm b c) ∙ xor-assoc c b d)
+    ∙ sym (xor-assoc a c (xor b d))
+
 pub xor-self : (a : Bool) → xor a a ≡ false
 unfolding xor
 xor-self true = refl
 xor-self false = refl
+
+pub and-xor : (a b x : Bool) → (xor a b && x) ≡ xor (a && x) (b && x)
+unfolding xor
+and-xor true true x = sym (xor-self x)
+and-xor true false true = refl
+and-xor true false false = refl
+and-xor false true true = refl
+and-xor false true false = refl
+and-xor false false x = refl
 
 -- the same twice is gone
 pub xor-back : (a b : Bool) → xor (xor a b) b ≡ a
@@ -51,6 +67,21 @@ pub xor-false : (a : Bool) → xor a false ≡ a
 unfolding xor
 xor-false true = refl
 xor-false false = refl
+
+pub false-xor : (a : Bool) → xor false a ≡ a
+unfolding xor
+false-xor true = refl
+false-xor false = refl
+
+pub xor-not : (a b : Bool) → xor a (not b) ≡ not (xor a b)
+unfolding xor
+xor-not true true = refl
+xor-not true false = refl
+xor-not false true = refl
+xor-not false false = refl
+
+pub not-xor : (a b : Bool) → xor (not a) b ≡ not (xor a b)
+not-xor a b = xor-comm (not a) b ∙ xor-not b a ∙ ap not (xor-comm b a)
 
 -- a bit as a number
 bit-odd : (b : Bool) (n : ℕ) → odd (cond b 1 0 + 2 * n) ≡ b
@@ -117,7 +148,8 @@ number-append [] t = sym (zero-add (1 * number t) ∙ one-mul (number t))
 number-append (b ∷ s) t =
     ap (λ (n : ℕ). cond b 1 0 + 2 * n) (number-append s t)
     ∙ regroup (cond b 1 0) (number s) (2 ^ length s * number t)
-    ∙ ap (λ (n : ℕ). cond b 1 0 + 2 * number s + n) (sym (mul-assoc 2 (2 ^ length s) (number t)) ∙ ap (λ (p : ℕ). p * number t) (sym (pow-succ' 2 (length s))))
+    ∙ ap (λ (n : ℕ). cond b 1 0 + 2 * number s + n)
+    (sym (mul-assoc 2 (2 ^ length s) (number t)) ∙ ap (λ (p : ℕ). p * number t) (sym (pow-succ' 2 (length s))))
   where
     regroup : (c a n : ℕ) → c + 2 * (a + n) ≡ c + 2 * a + 2 * n
     regroup c a n = omega arith
@@ -128,7 +160,8 @@ bits-append zero v n = rw (zero-add, div-one)
 bits-append (suc w) v n =
     ap (λ (k : ℕ). bits k n) (suc-add w v)
     ∙ ap (λ (s : List Bool). odd n ∷ s) (bits-append w v (n / 2))
-    ∙ ap (λ (k : ℕ). odd n ∷ (bits w (n / 2) ++ bits v k)) (div-div-eq-div-mul n 2 (2 ^ w) ∙ ap (λ (p : ℕ). n / p) (sym (pow-succ' 2 w)))
+    ∙ ap (λ (k : ℕ). odd n ∷ (bits w (n / 2) ++ bits v k))
+    (div-div-eq-div-mul n 2 (2 ^ w) ∙ ap (λ (p : ℕ). n / p) (sym (pow-succ' 2 w)))
 
 -- the low w bits are those of the remainder
 pub bits-mod : (w n : ℕ) → bits w (n % 2 ^ w) ≡ bits w n
@@ -149,22 +182,14 @@ bits-above w v n h =
 
 pub oddOnes-append : (s t : List Bool) → oddOnes (s ++ t) ≡ xor (oddOnes s) (oddOnes t)
 unfolding oddOnes xor
-oddOnes-append [] t = xor-false-left (oddOnes t)
-  where
-    xor-false-left : (b : Bool) → b ≡ xor false b
-    xor-false-left true = refl
-    xor-false-left false = refl
+oddOnes-append [] t = sym (false-xor (oddOnes t))
 oddOnes-append (b ∷ s) t = ap (xor b) (oddOnes-append s t) ∙ sym (xor-assoc b (oddOnes s) (oddOnes t))
 
 -- ---------------------------------------------------------------- the code's count of ones, and its exclusive or
 
 odd-more : (r n : ℕ) → r < 2 → odd (r + n) ≡ xor (eqb r 1) (odd n)
 unfolding odd xor
-odd-more zero n h = ap (λ (m : ℕ). eqb (m % 2) 1) (zero-add n) ∙ kept (eqb (n % 2) 1)
-  where
-    kept : (b : Bool) → b ≡ xor false b
-    kept true = refl
-    kept false = refl
+odd-more zero n h = ap (λ (m : ℕ). eqb (m % 2) 1) (zero-add n) ∙ sym (false-xor (eqb (n % 2) 1))
 odd-more (suc zero) n h = go (n % 2) refl (omega arith)
   where
     go : (r : ℕ) → n % 2 ≡ r → r < 2 → eqb ((1 + n) % 2) 1 ≡ xor true (eqb r 1)
@@ -208,7 +233,8 @@ bits-xor zero a b = refl
 bits-xor (suc w) a b =
     let d = differ-bit (a % 2) (b % 2) (omega arith) (omega arith) in
     ap (bits (suc w)) (xor-step a b)
-    ∙ ap₂ (λ (r n : ℕ). eqb r 1 ∷ bits w n) (low (bitXor (a / 2) (b / 2)) (differ (a % 2) (b % 2)) (d .0)) (high (bitXor (a / 2) (b / 2)) (differ (a % 2) (b % 2)) (d .0))
+    ∙ ap₂ (λ (r n : ℕ). eqb r 1 ∷ bits w n) (low (bitXor (a / 2) (b / 2)) (differ (a % 2) (b % 2)) (d .0))
+    (high (bitXor (a / 2) (b / 2)) (differ (a % 2) (b % 2)) (d .0))
     ∙ ap₂ {B = List Bool} _∷_ (d .1) (bits-xor w (a / 2) (b / 2))
   where
     low : (n r : ℕ) → r < 2 → (n * 2 + r) % 2 ≡ r

@@ -1,10 +1,9 @@
 -- The turns of the loops in `build` and `crc_right`: the symbols or bytes stored so far and those still to come are the
 -- whole. Assumes nothing.
-use Prim.Native.Nat.{ℕ, zero, suc, _+_, _*_, _/_, _%_, _≤_, _<_}
+use Prim.Native.Nat.{ℕ, _+_, _*_, _/_, _%_, _<_}
 use native.Mathlib.Omega.{arith}
-use mathlib.Core.Bool.{Bool}
 use mathlib.Core.List.{List, [], _∷_, _++_, map}
-use mathlib.Core.Path.{_≡_, refl, ap, ap₂, sym, _∙_}
+use mathlib.Core.Path.{_≡_, ap, sym, _∙_}
 use lib.Dec.{eqb, lit<, lit≤}
 use lib.ListN.{length, take, drop, set, getD, replicate, length-set, List·getD-append}
 use lib.Seq.{take-at, take-all, getD-append-add}
@@ -16,7 +15,8 @@ use Rattle.frame.proofs.FrameLaws.{crcOf-below, crcBytes, build-symbols
 abbrev pub Building : List ℕ → List ℕ → ℕ → Type 0
 Building l s i = take i s ++ map oddSymbol (drop i (l ++ crcBytes l)) ≡ build l
 
-pub build-start : (l : List ℕ) (x : ℕ) → length l ≡ 10 → x ≡ evenSymbol (getD l 0 0) → Building l (set (replicate 12 0) 0 x) 1
+pub build-start : (l : List ℕ) (x : ℕ) → length l ≡ 10 → x ≡ evenSymbol (getD l 0 0)
+    → Building l (set (replicate 12 0) 0 x) 1
 unfolding symbols
 build-start [] x n e = absurd (omega arith)
 build-start (d ∷ l) x n e =
@@ -33,12 +33,15 @@ build-more l s i x n m h e b =
 crc-at : (l : List ℕ) (i : ℕ) → length l ≡ 10 → getD (l ++ crcBytes l) (10 + i) 0 ≡ getD (crcBytes l) i 0
 crc-at l i n = ap (λ (k : ℕ). getD (l ++ crcBytes l) (k + i) 0) (sym n) ∙ getD-append-add l (crcBytes l) i 0
 
-pub build-last : (l s : List ℕ) (i c x y : ℕ) → i ≡ 10 → length l ≡ 10 → length s ≡ 12 → c ≡ crcOf l → x ≡ oddSymbol (c % 256)
+pub build-last : (l s : List ℕ) (i c x y : ℕ) → i ≡ 10 → length l ≡ 10 → length s ≡ 12 → c ≡ crcOf l
+    → x ≡ oddSymbol (c % 256)
     → y ≡ oddSymbol (c / 256 % 256) → Building l s i → set (set s 10 x) 11 y ≡ build l
 unfolding crcBytes
 build-last l s i c x y t n m e u v b =
-    fill-map-end oddSymbol (l ++ crcBytes l) (set (set s 10 x) 11 y) (build l) 12 (rw (with-crc-length l n) (lit≤ tt)) (rw (length-set, length-set, m) (lit≤ tt))
-    (fill-map oddSymbol (l ++ crcBytes l) (set s 10 x) (build l) 11 y (rw (with-crc-length l n) (lit< tt)) (rw (length-set, m) (lit< tt))
+    fill-map-end oddSymbol (l ++ crcBytes l) (set (set s 10 x) 11 y) (build l) 12
+    (rw (with-crc-length l n) (lit≤ tt)) (rw (length-set, length-set, m) (lit≤ tt))
+    (fill-map oddSymbol (l ++ crcBytes l) (set s 10 x) (build l) 11 y (rw (with-crc-length l n) (lit< tt))
+    (rw (length-set, m) (lit< tt))
     (v ∙ ap oddSymbol (ap (λ (k : ℕ). k / 256 % 256) e ∙ high (crcOf l) (crcOf-below l) ∙ sym (crc-at l 1 n)))
     (fill-map oddSymbol (l ++ crcBytes l) s (build l) 10 x (rw (with-crc-length l n) (lit< tt)) (rw m (lit< tt))
     (u ∙ ap oddSymbol (ap (λ (k : ℕ). k % 256) e ∙ sym (crc-at l 0 n)))

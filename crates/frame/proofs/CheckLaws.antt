@@ -1,14 +1,14 @@
--- The answer table's rows for the frame check, each "exactly when"; what `someAbove` says of each symbol; and that results
--- which satisfy the contract of a call of this crate are identical. Assumes nothing.
+-- Laws of Check.antt: what `someAbove` says of each symbol; the answer table's rows for the frame check, each "exactly
+-- when"; and the ways out of the call `check`. `pick` and its rows serve the finder too. Assumes nothing.
 use Prim.Native.Nat.{ℕ, zero, suc, _+_, _≤_, _<_}
 use native.Mathlib.Numerals.{add-one}
 use native.Mathlib.Omega.{arith}
 use mathlib.Core.Bool.{Bool, true, false, _||_, cond, true≢false}
 use mathlib.Core.List.{List, [], _∷_}
 use mathlib.Core.Logic.{_↔_, _≢_}
-use mathlib.Core.Path.{_≡_, refl, ap, sym, _∙_}
+use mathlib.Core.Path.{_≡_, refl, sym}
 use borrow.Author.Tests.{eqb-true, eqb-false, eq-eqb, ne-eqb, ltb-true, ltb-false, lt-ltb, le-ltb}
-use lib.Dec.{eqb, ltb}
+use lib.Dec.{eqb, ltb, lit<}
 use lib.ListN.{length, drop, getD, drop-of-length-le}
 use lib.Seq.{drop-cons}
 use Rattle.answer.specs.Number.{numberOf}
@@ -21,26 +21,27 @@ use Rattle.frame.proofs.RightLaws.{rightFrom, acceptable-right}
 
 -- ---------------------------------------------------------------- numbers above the largest symbol
 
+pub or-left : (a b : Bool) → (a || b) ≡ false → a ≡ false
+or-left true b e = e
+or-left false b e = refl
+
+pub or-right : (a b : Bool) → (a || b) ≡ false → b ≡ false
+or-right true b e = absurd (true≢false e)
+or-right false b e = e
+
 pub above-none : (l : List ℕ) (i : ℕ) → someAbove l ≡ false → getD l i 0 ≤ largest
 unfolding someAbove
 above-none [] i e = omega arith
 above-none (s ∷ l) zero e = ltb-false largest s (or-left (ltb largest s) (someAbove l) e)
-  where
-    or-left : (a b : Bool) → (a || b) ≡ false → a ≡ false
-    or-left true b e = e
-    or-left false b e = refl
 above-none (s ∷ l) (suc i) e = above-none l i (or-right (ltb largest s) (someAbove l) e)
-  where
-    or-right : (a b : Bool) → (a || b) ≡ false → b ≡ false
-    or-right true b e = absurd (true≢false e)
-    or-right false b e = e
 
 pub above-some : (l : List ℕ) → someAbove l ≡ true → (i : ℕ) × (i < length l) × (largest < getD l i 0)
 unfolding someAbove
 above-some [] e = absurd (true≢false (sym e))
 above-some (s ∷ l) e = go (ltb largest s) refl (above-some l) e
   where
-    go : (b : Bool) → ltb largest s ≡ b → (someAbove l ≡ true → (i : ℕ) × (i < length l) × (largest < getD l i 0)) → (b || someAbove l) ≡ true
+    go : (b : Bool) → ltb largest s ≡ b → (someAbove l ≡ true → (i : ℕ) × (i < length l) × (largest < getD l i 0))
+        → (b || someAbove l) ≡ true
         → (i : ℕ) × (i < length (s ∷ l)) × (largest < getD (s ∷ l) i 0)
     go true t r f = (zero, omega arith, ltb-true largest s t)
     go false t r f = let (i, h, k) = r f in (suc i, omega arith, k)
@@ -70,55 +71,57 @@ above-end l i h = rw (drop-of-length-le l h)
 
 -- ---------------------------------------------------------------- the rows
 
--- the answer of three tests: twelve symbols, one above the largest, acceptable
-pick : Bool → Bool → Bool → Answer
-pick n a c = cond n (cond a BadSymbol (cond c Done NotAcceptable)) BadLength
+-- the answer to a list by three tests, in the table's order: it is short enough, it has a number above the largest
+-- symbol, what is looked for is there; x is the answer where it is not
+unfoldable pub pick : Answer → Bool → Bool → Bool → Answer
+pick x n a c = cond n (cond a BadSymbol (cond c Done x)) BadLength
 
-pick-7 : (n a c : Bool) → (numberOf (pick n a c) ≡ 7) ↔ (n ≡ false)
-unfolding pick
-pick-7 true true c = (λ e. absurd (omega arith), λ e. absurd (true≢false e))
-pick-7 true false true = (λ e. absurd (omega arith), λ e. absurd (true≢false e))
-pick-7 true false false = (λ e. absurd (omega arith), λ e. absurd (true≢false e))
-pick-7 false a c = (λ e. refl, λ e. refl)
+module _ (x : Answer) (h : 7 < numberOf x) where
+  pub pick-7 : (n a c : Bool) → (numberOf (pick x n a c) ≡ 7) ↔ (n ≡ false)
+  unfolding pick
+  pick-7 true true c = (λ e. absurd (omega arith), λ e. absurd (true≢false e))
+  pick-7 true false true = (λ e. absurd (omega arith), λ e. absurd (true≢false e))
+  pick-7 true false false = (λ e. absurd (omega arith), λ e. absurd (true≢false e))
+  pick-7 false a c = (λ e. refl, λ e. refl)
 
-pick-5 : (n a c : Bool) → (numberOf (pick n a c) ≡ 5) ↔ ((n ≡ true) × (a ≡ true))
-unfolding pick
-pick-5 true true c = (λ e. (refl, refl), λ e. refl)
-pick-5 true false true = (λ e. absurd (omega arith), λ e. absurd (true≢false (sym (e .1))))
-pick-5 true false false = (λ e. absurd (omega arith), λ e. absurd (true≢false (sym (e .1))))
-pick-5 false a c = (λ e. absurd (omega arith), λ e. absurd (true≢false (sym (e .0))))
+  pub pick-5 : (n a c : Bool) → (numberOf (pick x n a c) ≡ 5) ↔ ((n ≡ true) × (a ≡ true))
+  unfolding pick
+  pick-5 true true c = (λ e. (refl, refl), λ e. refl)
+  pick-5 true false true = (λ e. absurd (omega arith), λ e. absurd (true≢false (sym (e .1))))
+  pick-5 true false false = (λ e. absurd (omega arith), λ e. absurd (true≢false (sym (e .1))))
+  pick-5 false a c = (λ e. absurd (omega arith), λ e. absurd (true≢false (sym (e .0))))
 
-pick-9 : (n a c : Bool) → (numberOf (pick n a c) ≡ 9) ↔ ((n ≡ true) × (a ≡ false) × (c ≡ false))
-unfolding pick
-pick-9 true true c = (λ e. absurd (omega arith), λ e. absurd (true≢false (e .1)))
-pick-9 true false true = (λ e. absurd (omega arith), λ e. absurd (true≢false (e .2)))
-pick-9 true false false = (λ e. (refl, refl, refl), λ e. refl)
-pick-9 false a c = (λ e. absurd (omega arith), λ e. absurd (true≢false (sym (e .0))))
+  pub pick-none : (n a c : Bool) → (numberOf (pick x n a c) ≡ numberOf x) ↔ ((n ≡ true) × (a ≡ false) × (c ≡ false))
+  unfolding pick
+  pick-none true true c = (λ e. absurd (omega arith), λ e. absurd (true≢false (e .1)))
+  pick-none true false true = (λ e. absurd (omega arith), λ e. absurd (true≢false (e .2)))
+  pick-none true false false = (λ e. (refl, refl, refl), λ e. refl)
+  pick-none false a c = (λ e. absurd (omega arith), λ e. absurd (true≢false (sym (e .0))))
 
-pick-0 : (n a c : Bool) → (numberOf (pick n a c) ≡ 0) ↔ ((n ≡ true) × (a ≡ false) × (c ≡ true))
-unfolding pick
-pick-0 true true c = (λ e. absurd (omega arith), λ e. absurd (true≢false (e .1)))
-pick-0 true false true = (λ e. (refl, refl, refl), λ e. refl)
-pick-0 true false false = (λ e. absurd (omega arith), λ e. absurd (true≢false (sym (e .2))))
-pick-0 false a c = (λ e. absurd (omega arith), λ e. absurd (true≢false (sym (e .0))))
+  pub pick-0 : (n a c : Bool) → (numberOf (pick x n a c) ≡ 0) ↔ ((n ≡ true) × (a ≡ false) × (c ≡ true))
+  unfolding pick
+  pick-0 true true c = (λ e. absurd (omega arith), λ e. absurd (true≢false (e .1)))
+  pick-0 true false true = (λ e. (refl, refl, refl), λ e. refl)
+  pick-0 true false false = (λ e. absurd (omega arith), λ e. absurd (true≢false (sym (e .2))))
+  pick-0 false a c = (λ e. absurd (omega arith), λ e. absurd (true≢false (sym (e .0))))
 
 module _ (l : List ℕ) where
   pub check-7 : (numberOf (checkOf l) ≡ 7) ↔ (length l ≢ 12)
   unfolding checkOf pick
   check-7 =
-      let row = pick-7 (eqb (length l) 12) (someAbove l) (acceptable l) in
+      let row = pick-7 NotAcceptable (lit< tt) (eqb (length l) 12) (someAbove l) (acceptable l) in
       (λ e. eqb-false (length l) 12 (row .0 e), λ h. row .1 (ne-eqb (length l) 12 h))
 
   pub check-5 : (numberOf (checkOf l) ≡ 5) ↔ ((length l ≡ 12) × (someAbove l ≡ true))
   unfolding checkOf pick
   check-5 =
-      let row = pick-5 (eqb (length l) 12) (someAbove l) (acceptable l) in
+      let row = pick-5 NotAcceptable (lit< tt) (eqb (length l) 12) (someAbove l) (acceptable l) in
       (λ e. (eqb-true (length l) 12 (row .0 e .0), row .0 e .1), λ h. row .1 (eq-eqb (length l) 12 (h .0), h .1))
 
   pub check-9 : (numberOf (checkOf l) ≡ 9) ↔ ((length l ≡ 12) × (someAbove l ≡ false) × (acceptable l ≡ false))
   unfolding checkOf pick
   check-9 =
-      let row = pick-9 (eqb (length l) 12) (someAbove l) (acceptable l) in (
+      let row = pick-none NotAcceptable (lit< tt) (eqb (length l) 12) (someAbove l) (acceptable l) in (
         λ e. (eqb-true (length l) 12 (row .0 e .0), row .0 e .1, row .0 e .2),
         λ h. row .1 (eq-eqb (length l) 12 (h .0), h .1, h .2),
       )
@@ -127,7 +130,7 @@ module _ (l : List ℕ) where
   pub check-0 : (numberOf (checkOf l) ≡ 0) ↔ (acceptable l ≡ true)
   unfolding checkOf pick
   check-0 =
-      let row = pick-0 (eqb (length l) 12) (someAbove l) (acceptable l) in
+      let row = pick-0 NotAcceptable (lit< tt) (eqb (length l) 12) (someAbove l) (acceptable l) in
       (λ e. row .0 e .2, λ h. row .1 (eq-eqb (length l) 12 (acceptable-length l h), acceptable-above l h, h))
 
 -- ---------------------------------------------------------------- the ways out of `check`

@@ -1,18 +1,19 @@
--- Laws of Crc.antt, over any width and generator: lengths; exclusive or of registers; a register fed with itself goes to
--- zeros; bits that come in may as well be added to the register first (`run-absorb`); and, where the generator's constant
--- term is 1 (it is `h ++ (true ∷ [])`), a shift loses nothing, so that a burst no longer than the register is caught
--- (`run-burst`, `crc-burst`). Assumes nothing.
+-- Laws of Crc.antt, over any width and generator: lengths; exclusive or of registers; the CRC is linear (`run-plus`,
+-- `crc-plus`); a register fed with itself goes to zeros; bits that come in may as well be added to the register
+-- first (`run-absorb`); and, where the generator's constant term is 1 (it is `h ++ (true ∷ [])`), a shift loses
+-- nothing, so that a burst no longer than the register is caught (`run-burst`, `crc-burst`). Assumes nothing.
 use Prim.Native.Nat.{ℕ, zero, suc, _+_, _≤_}
 use native.Mathlib.Nat.{suc-inj, suc-add, zero-add, add-suc, le-dest}
 use native.Mathlib.Numerals.{add-one}
 use native.Mathlib.Omega.{arith}
 use mathlib.Core.Bool.{Bool, true, false, xor, _&&_}
-use mathlib.Core.List.{List, [], _∷_, _++_, map, append-assoc, append-nil}
+use mathlib.Core.List.{List, [], _∷_, _++_, append-assoc, append-nil}
 use mathlib.Core.Path.{_≡_, refl, ap, ap₂, sym, _∙_}
 use lib.ListN.{length, take, drop, replicate, length-map, length-append, length-replicate}
 use lib.Seq.{take-at, drop-at}
 use Rattle.frame.specs.Crc.{plus, times, shift, run, crc}
-use Rattle.frame.proofs.BitsLaws.{xor-assoc, xor-comm, xor-self, xor-false, xor-back}
+use Rattle.frame.proofs.BitsLaws.{xor-assoc, xor-comm, xor-swap, and-xor, xor-self, xor-false, false-xor}
+use Rattle.frame.proofs.BitsLaws.{xor-back}
 
 pub plus-length : (s t : List Bool) → length s ≡ length t → length (plus s t) ≡ length s
 unfolding plus
@@ -66,6 +67,12 @@ plus-assoc (a ∷ s) [] u = refl
 plus-assoc (a ∷ s) (b ∷ t) [] = refl
 plus-assoc (a ∷ s) (b ∷ t) (c ∷ u) = ap₂ {B = List Bool} _∷_ (xor-assoc a b c) (plus-assoc s t u)
 
+pub plus-swap : (s t u v : List Bool) → plus (plus s t) (plus u v) ≡ plus (plus s u) (plus t v)
+plus-swap s t u v =
+    plus-assoc s t (plus u v)
+    ∙ ap (plus s) (sym (plus-assoc t u v) ∙ ap (λ (x : List Bool). plus x v) (plus-comm t u) ∙ plus-assoc u t v)
+    ∙ sym (plus-assoc s u (plus t v))
+
 -- the same added twice is gone
 pub plus-back : (s t : List Bool) → length s ≡ length t → plus (plus s t) t ≡ s
 unfolding plus
@@ -100,11 +107,45 @@ unfolding times
 times-true [] = refl
 times-true (a ∷ g) = ap (λ (r : List Bool). a ∷ r) (times-true g)
 
+pub times-plus : (a b : Bool) (g : List Bool) → times (xor a b) g ≡ plus (times a g) (times b g)
+unfolding times plus
+times-plus a b [] = refl
+times-plus a b (x ∷ g) = ap₂ {B = List Bool} _∷_ (and-xor a b x) (times-plus a b g)
+
 pub times-snoc : (b : Bool) (h : List Bool) → times b (h ++ (true ∷ [])) ≡ times b h ++ (b ∷ [])
 unfolding times
 times-snoc true [] = refl
 times-snoc false [] = refl
 times-snoc b (a ∷ h) = ap (λ (r : List Bool). (b && a) ∷ r) (times-snoc b h)
+
+-- ---------------------------------------------------------------- linear: the sum of two runs is the run of the sums
+
+pub shift-plus : (g r s : List Bool) (a b : Bool) → length r ≡ length s
+    → shift g (plus r s) (xor a b) ≡ plus (shift g r a) (shift g s b)
+unfolding shift plus
+shift-plus g [] s a b e = refl
+shift-plus g (p ∷ r) [] a b e = absurd (omega arith)
+shift-plus g (p ∷ r) (q ∷ s) a b e =
+    ap₂ (λ (x : List Bool) (c : Bool). plus x (times c g)) (sym (plus-snoc r s false false (suc-inj e)))
+    (xor-swap p q a b)
+    ∙ ap (plus (plus (r ++ (false ∷ [])) (s ++ (false ∷ [])))) (times-plus (xor p a) (xor q b) g)
+    ∙ plus-swap (r ++ (false ∷ [])) (s ++ (false ∷ [])) (times (xor p a) g) (times (xor q b) g)
+
+pub run-plus : (g r s x y : List Bool) → length r ≡ length g → length s ≡ length g → length x ≡ length y
+    → run g (plus r s) (plus x y) ≡ plus (run g r x) (run g s y)
+unfolding run plus
+run-plus g r s [] [] n m e = refl
+run-plus g r s [] (b ∷ y) n m e = absurd (omega arith)
+run-plus g r s (a ∷ x) [] n m e = absurd (omega arith)
+run-plus g r s (a ∷ x) (b ∷ y) n m e =
+    ap (λ (t : List Bool). run g t (plus x y)) (shift-plus g r s a b (n ∙ sym m))
+    ∙ run-plus g (shift g r a) (shift g s b) x y (shift-length g r a n) (shift-length g s b m) (suc-inj e)
+
+pub crc-plus : (g x y : List Bool) → length x ≡ length y → crc g (plus x y) ≡ plus (crc g x) (crc g y)
+unfolding crc
+crc-plus g x y e =
+    ap (λ (t : List Bool). run g t (plus x y)) (times-plus false false g)
+    ∙ run-plus g (times false g) (times false g) x y (times-length false g) (times-length false g) e
 
 -- ---------------------------------------------------------------- runs
 
@@ -130,7 +171,9 @@ run-own g (s ∷ u) z e =
     ∙ append-assoc z (false ∷ []) (replicate (length u) false)
   where
     moved : length (u ++ (z ++ (false ∷ []))) ≡ suc (length (u ++ z))
-    moved = ap length (sym (append-assoc u z (false ∷ []))) ∙ length-append (u ++ z) (false ∷ []) ∙ add-one (length (u ++ z))
+    moved =
+        ap length (sym (append-assoc u z (false ∷ []))) ∙ length-append (u ++ z) (false ∷ [])
+        ∙ add-one (length (u ++ z))
 
 -- a message with its own CRC behind it brings the register back to zeros
 pub crc-own : (g bs : List Bool) → run g (times false g) (bs ++ crc g bs) ≡ replicate (length g) false
@@ -163,14 +206,17 @@ unfolding run
 run-absorb g r [] k e n = sym (plus-zeros r k (e ∙ sym n ∙ zero-add k))
 run-absorb g [] (b ∷ u) k e n = absurd (omega arith)
 run-absorb g (s ∷ r) (b ∷ u) k e n =
-    run-absorb g (shift g (s ∷ r) b) u (suc k) (shift-length g (s ∷ r) b e) (add-suc (length u) k ∙ sym (suc-add (length u) k) ∙ n)
+    run-absorb g (shift g (s ∷ r) b) u (suc k) (shift-length g (s ∷ r) b e)
+    (add-suc (length u) k ∙ sym (suc-add (length u) k) ∙ n)
     ∙ ap (λ (x : List Bool). run g x (replicate (length u) false))
     (ap (λ (z : List Bool). plus (shift g (s ∷ r) b) (u ++ z)) (replicate-snoc k)
     ∙ ap (plus (shift g (s ∷ r) b)) (sym (append-assoc u (replicate k false) (false ∷ [])))
     ∙ shift-absorb g r (u ++ replicate k false) s b lengths)
   where
     lengths : length r ≡ length (u ++ replicate k false)
-    lengths = suc-inj (e ∙ sym n ∙ suc-add (length u) k) ∙ sym (length-append u (replicate k false) ∙ ap (λ (m : ℕ). length u + m) (length-replicate k false))
+    lengths =
+        suc-inj (e ∙ sym n ∙ suc-add (length u) k)
+        ∙ sym (length-append u (replicate k false) ∙ ap (λ (m : ℕ). length u + m) (length-replicate k false))
 
 -- the generator with constant term 1 and the other coefficients h
 abbrev pub withOne : List Bool → List Bool
@@ -186,11 +232,7 @@ unfolding shift xor
 shift-last h r s b e =
     ap (plus (r ++ (false ∷ []))) (times-snoc (xor s b) h)
     ∙ plus-snoc r (times (xor s b) h) false (xor s b) (e ∙ sym (times-length (xor s b) h))
-    ∙ ap (λ (c : Bool). plus r (times (xor s b) h) ++ (c ∷ [])) (false-left (xor s b))
-  where
-    false-left : (c : Bool) → xor false c ≡ c
-    false-left true = refl
-    false-left false = refl
+    ∙ ap (λ (c : Bool). plus r (times (xor s b) h) ++ (c ∷ [])) (false-xor (xor s b))
 
 pub shift-injective : (h r s : List Bool) (b : Bool) → length r ≡ suc (length h) → length s ≡ suc (length h)
     → shift (withOne h) r b ≡ shift (withOne h) s b → r ≡ s
@@ -208,17 +250,22 @@ shift-injective h (x ∷ r) (y ∷ s) b n m e = ap₂ {B = List Bool} _∷_ tops
     parts = sym (shift-last h r x b (suc-inj n)) ∙ e ∙ shift-last h s y b (suc-inj m)
 
     fronts : front x r ≡ front y s
-    fronts = same-front (front x r) (front y s) (xor x b ∷ []) (xor y b ∷ []) (fed x r (suc-inj n) ∙ sym (fed y s (suc-inj m))) parts
+    fronts =
+        same-front (front x r) (front y s) (xor x b ∷ []) (xor y b ∷ [])
+        (fed x r (suc-inj n) ∙ sym (fed y s (suc-inj m))) parts
 
     backs : xor x b ∷ [] ≡ xor y b ∷ []
-    backs = same-back (front x r) (front y s) (xor x b ∷ []) (xor y b ∷ []) (fed x r (suc-inj n) ∙ sym (fed y s (suc-inj m))) parts
+    backs =
+        same-back (front x r) (front y s) (xor x b ∷ []) (xor y b ∷ [])
+        (fed x r (suc-inj n) ∙ sym (fed y s (suc-inj m))) parts
 
     tops : x ≡ y
     tops = sym (xor-back x b) ∙ ap (λ (c : Bool). xor c b) (cc backs) ∙ xor-back y b
 
     rests : r ≡ s
     rests =
-        plus-cancel r s (times (xor x b) h) (suc-inj n ∙ sym (times-length (xor x b) h)) (suc-inj m ∙ sym (times-length (xor x b) h))
+        plus-cancel r s (times (xor x b) h) (suc-inj n ∙ sym (times-length (xor x b) h))
+        (suc-inj m ∙ sym (times-length (xor x b) h))
         (fronts ∙ ap (λ (z : Bool). plus s (times (xor z b) h)) (sym tops))
 
 pub run-injective : (h r s bs : List Bool) → length r ≡ suc (length h) → length s ≡ suc (length h)
@@ -226,7 +273,8 @@ pub run-injective : (h r s bs : List Bool) → length r ≡ suc (length h) → l
 unfolding run
 run-injective h r s [] n m e = e
 run-injective h r s (b ∷ bs) n m e =
-    shift-injective h r s b n m (run-injective h (shift (withOne h) r b) (shift (withOne h) s b) bs (next r n) (next s m) e)
+    shift-injective h r s b n m (run-injective h (shift (withOne h) r b) (shift (withOne h) s b) bs (next r n)
+    (next s m) e)
   where
     next : (r : List Bool) → length r ≡ suc (length h) → length (shift (withOne h) r b) ≡ suc (length h)
     next r n = shift-length (withOne h) r b (n ∙ sym (withOne-length h)) ∙ withOne-length h
@@ -267,7 +315,8 @@ run-burst h r u v q n m b e =
 
     sums : plus r (u ++ replicate k false) ≡ plus r (v ++ replicate k false)
     sums =
-        run-injective h (plus r (u ++ replicate k false)) (plus r (v ++ replicate k false)) (replicate (length u) false) (added u fits) (added v fits′)
+        run-injective h (plus r (u ++ replicate k false)) (plus r (v ++ replicate k false))
+        (replicate (length u) false) (added u fits) (added v fits′)
         (sym (run-absorb (withOne h) r u k wide (fits ∙ sym (withOne-length h)))
         ∙ before
         ∙ run-absorb (withOne h) r v k wide (fits′ ∙ sym (withOne-length h))

@@ -1,24 +1,25 @@
--- Laws of Distance.antt. Right parities on both sides force an even number of wrong bits in each symbol, so at most three
--- wrong bits are two bits of one symbol: a burst within eight data bits, which the CRC catches. Hence two acceptable frames
--- at most three wrong bits apart are equal (`acceptable-near`), and a frame one to three wrong bits from an acceptable one
--- is never acceptable (`acceptable-wrong`). Assumes nothing.
+-- Laws of Distance.antt. Right parities on both sides force an even number of wrong bits in each symbol, so at most
+-- three wrong bits are two bits of one symbol: a burst within eight data bits, which the CRC catches. Hence two
+-- acceptable frames at most three wrong bits apart are equal (`acceptable-near`), and a frame one to three wrong
+-- bits from an acceptable one is never acceptable (`acceptable-wrong`). Assumes nothing.
 use Prim.Native.Nat.{ℕ, zero, suc, _+_, _≤_, _<_, _%_}
 use native.Mathlib.Nat.{suc-inj}
 use native.Mathlib.Omega.{arith}
 use mathlib.Core.Bool.{Bool, true, false, not, cond, xor, true≢false}
-use mathlib.Core.List.{List, [], _∷_, _++_, map, append-assoc, append-nil}
+use mathlib.Core.List.{List, [], _∷_, _++_, map}
 use mathlib.Core.Path.{_≡_, refl, ap, ap₂, sym, _∙_}
 use borrow.Author.Tests.{leb-true, leb-false}
 use lib.Dec.{leb, lit≤}
 use lib.ListN.{length, take, getD, replicate}
-use Rattle.frame.specs.Bits.{odd, bits, number, oddOnes}
-use Rattle.frame.specs.Crc.{times, run, crc}
+use Rattle.frame.specs.Bits.{bits, number, oddOnes}
+use Rattle.frame.specs.Crc.{times, run}
 use Rattle.frame.specs.Distance.{wire, distance}
-use Rattle.frame.specs.Frame.{generator, stream, crcOf, dataOf, even, build, acceptable, symbols}
-use Rattle.frame.proofs.BitsLaws.{xor-comm, xor-self, xor-back, bits-length, number-bits, oddOnes-append}
+use Rattle.frame.specs.Frame.{generator, stream, dataOf, even, acceptable}
+use Rattle.frame.proofs.BitsLaws.{xor-comm, xor-self, xor-back, xor-not, not-xor, bits-length, number-bits}
 use Rattle.frame.proofs.CrcLaws.{times-length, run-length, run-append, crc-own, withOne, run-burst}
 use Rattle.frame.proofs.FrameLaws.{generator-length, build-stream}
-use Rattle.frame.proofs.AcceptLaws.{acceptable-length, acceptable-below, acceptable-first, acceptable-rest, acceptable-build, top, nine-bits, even-top}
+use Rattle.frame.proofs.AcceptLaws.{acceptable-length, acceptable-below, acceptable-first, acceptable-rest}
+use Rattle.frame.proofs.AcceptLaws.{acceptable-build, top, nine-bits, even-top}
 
 -- ---------------------------------------------------------------- distance
 
@@ -27,7 +28,8 @@ unfolding distance
 distance-self [] = refl
 distance-self (a ∷ s) = ap₂ (λ (b : Bool) (n : ℕ). cond b 1 0 + n) (xor-self a) (distance-self s)
 
-pub distance-append : (s t u v : List Bool) → length s ≡ length t → distance (s ++ u) (t ++ v) ≡ distance s t + distance u v
+pub distance-append : (s t u v : List Bool) → length s ≡ length t
+    → distance (s ++ u) (t ++ v) ≡ distance s t + distance u v
 unfolding distance
 distance-append [] [] u v e = omega arith
 distance-append [] (b ∷ t) u v e = absurd (omega arith)
@@ -42,7 +44,8 @@ distance-zero (a ∷ s) [] e d = absurd (omega arith)
 distance-zero (true ∷ s) (true ∷ t) e d = ap (λ (r : List Bool). true ∷ r) (distance-zero s t (suc-inj e) (omega arith))
 distance-zero (true ∷ s) (false ∷ t) e d = absurd (omega arith)
 distance-zero (false ∷ s) (true ∷ t) e d = absurd (omega arith)
-distance-zero (false ∷ s) (false ∷ t) e d = ap (λ (r : List Bool). false ∷ r) (distance-zero s t (suc-inj e) (omega arith))
+distance-zero (false ∷ s) (false ∷ t) e d =
+    ap (λ (r : List Bool). false ∷ r) (distance-zero s t (suc-inj e) (omega arith))
 
 -- one difference turns the parity
 distance-one : (s t : List Bool) → length s ≡ length t → distance s t ≡ 1 → oddOnes s ≡ not (oddOnes t)
@@ -50,28 +53,16 @@ unfolding distance oddOnes xor
 distance-one [] [] e d = absurd (omega arith)
 distance-one [] (b ∷ t) e d = absurd (omega arith)
 distance-one (a ∷ s) [] e d = absurd (omega arith)
-distance-one (true ∷ s) (true ∷ t) e d = ap (xor true) (distance-one s t (suc-inj e) (omega arith)) ∙ turn (oddOnes t)
-  where
-    turn : (p : Bool) → xor true (not p) ≡ not (xor true p)
-    turn true = refl
-    turn false = refl
+distance-one (true ∷ s) (true ∷ t) e d =
+    ap (xor true) (distance-one s t (suc-inj e) (omega arith)) ∙ xor-not true (oddOnes t)
 distance-one (true ∷ s) (false ∷ t) e d =
-    ap (λ (u : List Bool). xor true (oddOnes u)) (distance-zero s t (suc-inj e) (omega arith)) ∙ turn (oddOnes t)
-  where
-    turn : (p : Bool) → xor true p ≡ not (xor false p)
-    turn true = refl
-    turn false = refl
+    ap (λ (u : List Bool). xor true (oddOnes u)) (distance-zero s t (suc-inj e) (omega arith))
+    ∙ not-xor false (oddOnes t)
 distance-one (false ∷ s) (true ∷ t) e d =
-    ap (λ (u : List Bool). xor false (oddOnes u)) (distance-zero s t (suc-inj e) (omega arith)) ∙ turn (oddOnes t)
-  where
-    turn : (p : Bool) → xor false p ≡ not (xor true p)
-    turn true = refl
-    turn false = refl
-distance-one (false ∷ s) (false ∷ t) e d = ap (xor false) (distance-one s t (suc-inj e) (omega arith)) ∙ turn (oddOnes t)
-  where
-    turn : (p : Bool) → xor false (not p) ≡ not (xor false p)
-    turn true = refl
-    turn false = refl
+    ap (λ (u : List Bool). xor false (oddOnes u)) (distance-zero s t (suc-inj e) (omega arith))
+    ∙ not-xor true (oddOnes t)
+distance-one (false ∷ s) (false ∷ t) e d =
+    ap (xor false) (distance-one s t (suc-inj e) (omega arith)) ∙ xor-not false (oddOnes t)
 
 -- ---------------------------------------------------------------- two symbols of one parity
 
@@ -126,14 +117,17 @@ data Alike : List ℕ → List ℕ → Type 0 where
   none : Alike [] []
   more : {a b : ℕ} {s t : List ℕ} → a < 512 → b < 512 → even a ≡ even b → Alike s t → Alike (a ∷ s) (b ∷ t)
 
-wire-apart : (a b : ℕ) (s t : List ℕ) → distance (wire (a ∷ s)) (wire (b ∷ t)) ≡ distance (bits 9 a) (bits 9 b) + distance (wire s) (wire t)
+wire-apart : (a b : ℕ) (s t : List ℕ)
+    → distance (wire (a ∷ s)) (wire (b ∷ t)) ≡ distance (bits 9 a) (bits 9 b) + distance (wire s) (wire t)
 unfolding wire
 wire-apart a b s t = distance-append (bits 9 a) (bits 9 b) (wire s) (wire t) (symbol-length a b 9)
 
 near-one : {s t : List ℕ} → Alike s t → distance (wire s) (wire t) ≤ 1 → s ≡ t
 near-one none d = refl
 near-one (more {a = a} {b = b} {s = s} {t = t} h k e r) d =
-    ap₂ {B = List ℕ} _∷_ (near-symbol a b h k e (omega (arith, wire-apart a b s t))) (near-one r (omega (arith, wire-apart a b s t)))
+    ap₂ {B =
+    List ℕ} _∷_ (near-symbol a b h k e (omega (arith, wire-apart a b s t)))
+    (near-one r (omega (arith, wire-apart a b s t)))
 
 -- the generator's coefficients but its constant term, which is 1
 rest : List Bool
@@ -157,11 +151,13 @@ stream-burst r a b s n e =
     ∙ e
     ∙ ap (λ (g : List Bool). run g r (bits 8 b ++ stream s)) rest-one)
 
-stream-next : (r : List Bool) (a : ℕ) (s : List ℕ) → run generator r (stream (a ∷ s)) ≡ run generator (run generator r (bits 8 a)) (stream s)
+stream-next : (r : List Bool) (a : ℕ) (s : List ℕ)
+    → run generator r (stream (a ∷ s)) ≡ run generator (run generator r (bits 8 a)) (stream s)
 unfolding stream
 stream-next r a s = run-append generator r (bits 8 a) (stream s)
 
-near-three : {s t : List ℕ} → Alike s t → (r : List Bool) → length r ≡ 16 → run generator r (stream s) ≡ run generator r (stream t)
+near-three : {s t : List ℕ} → Alike s t → (r : List Bool) → length r ≡ 16
+    → run generator r (stream s) ≡ run generator r (stream t)
     → distance (wire s) (wire t) ≤ 3 → s ≡ t
 near-three none r n e d = refl
 near-three (more {a = a} {b = b} {s = s} {t = t} h k p l) r n e d =
@@ -170,27 +166,32 @@ near-three (more {a = a} {b = b} {s = s} {t = t} h k p l) r n e d =
     apart : distance (bits 9 a) (bits 9 b) + distance (wire s) (wire t) ≤ 3
     apart = rw wire-apart at d
 
-    go : ((r : List Bool) → length r ≡ 16 → run generator r (stream s) ≡ run generator r (stream t) → distance (wire s) (wire t) ≤ 3 → s ≡ t)
+    go : ((r : List Bool) → length r ≡ 16 → run generator r (stream s) ≡ run generator r (stream t)
+        → distance (wire s) (wire t) ≤ 3 → s ≡ t)
         → (c : Bool) → leb (distance (bits 9 a) (bits 9 b)) 1 ≡ c → a ∷ s ≡ b ∷ t
     go on true f =
         let same = near-symbol a b h k p (leb-true (distance (bits 9 a) (bits 9 b)) 1 f) in
         ap₂ {B = List ℕ} _∷_ same
-        (on (run generator r (bits 8 a)) (run-length generator r (bits 8 a) (n ∙ sym generator-length) ∙ generator-length)
+        (on (run generator r (bits 8 a)) (run-length generator r (bits 8 a) (n ∙ sym generator-length)
+        ∙ generator-length)
         (sym (stream-next r a s) ∙ e ∙ ap (λ (x : ℕ). run generator r (stream (x ∷ t))) (sym same) ∙ stream-next r a t)
         (omega (arith, apart)))
     go on false f =
         let far = leb-false (distance (bits 9 a) (bits 9 b)) 1 f in
         let same = near-one l (omega (arith, apart, far)) in
         ap₂ {B = List ℕ} _∷_
-        (same-data a b h k p (stream-burst r a b s n (e ∙ ap (λ (x : List ℕ). run generator r (stream (b ∷ x))) (sym same))))
+        (same-data a b h k p (stream-burst r a b s n
+        (e ∙ ap (λ (x : List ℕ). run generator r (stream (b ∷ x))) (sym same))))
         same
 
 -- ---------------------------------------------------------------- acceptable frames
 
 -- twelve acceptable symbols bring the register back to zeros
-acceptable-zeros : (s : List ℕ) → acceptable s ≡ true → run generator (times false generator) (stream s) ≡ replicate (length generator) false
+acceptable-zeros : (s : List ℕ) → acceptable s ≡ true
+    → run generator (times false generator) (stream s) ≡ replicate (length generator) false
 acceptable-zeros s e =
-    ap (λ (x : List Bool). run generator (times false generator) x) (ap stream (acceptable-build s e) ∙ build-stream (take 10 (map dataOf s)))
+    ap (λ (x : List Bool). run generator (times false generator) x)
+    (ap stream (acceptable-build s e) ∙ build-stream (take 10 (map dataOf s)))
     ∙ crc-own generator (stream (take 10 (map dataOf s)))
 
 alike : (s t : List ℕ) → length s ≡ length t → ((i : ℕ) → getD s i 0 < 512) → ((i : ℕ) → getD t i 0 < 512)
@@ -199,11 +200,13 @@ alike [] [] n h k p = none
 alike [] (b ∷ t) n h k p = absurd (omega arith)
 alike (a ∷ s) [] n h k p = absurd (omega arith)
 alike (a ∷ s) (b ∷ t) n h k p =
-    more (h 0) (k 0) (p 0 (omega arith)) (alike s t (suc-inj n) (λ i. h (suc i)) (λ i. k (suc i)) (λ i l. p (suc i) (omega arith)))
+    more (h 0) (k 0) (p 0 (omega arith)) (alike s t (suc-inj n) (λ i. h (suc i)) (λ i. k (suc i))
+    (λ i l. p (suc i) (omega arith)))
 
 acceptable-alike : (s t : List ℕ) → acceptable s ≡ true → acceptable t ≡ true → Alike s t
 acceptable-alike s t e f =
-    alike s t (acceptable-length s e ∙ sym (acceptable-length t f)) (acceptable-below s e) (acceptable-below t f) parities
+    alike s t (acceptable-length s e ∙ sym (acceptable-length t f)) (acceptable-below s e) (acceptable-below t f)
+    parities
   where
     parities : (i : ℕ) → i < length s → even (getD s i 0) ≡ even (getD t i 0)
     parities zero l = acceptable-first s e ∙ sym (acceptable-first t f)
@@ -211,18 +214,21 @@ acceptable-alike s t e f =
         let l′ : suc i < 12 = rw (acceptable-length s e) at l in
         acceptable-rest s e (suc i) (omega arith) l′ ∙ sym (acceptable-rest t f (suc i) (omega arith) l′)
 
-pub acceptable-near : (s t : List ℕ) → acceptable s ≡ true → acceptable t ≡ true → distance (wire s) (wire t) ≤ 3 → s ≡ t
+pub acceptable-near : (s t : List ℕ) → acceptable s ≡ true → acceptable t ≡ true → distance (wire s) (wire t) ≤ 3
+    → s ≡ t
 acceptable-near s t e f d =
     near-three (acceptable-alike s t e f) (times false generator) (times-length false generator ∙ generator-length)
     (acceptable-zeros s e ∙ sym (acceptable-zeros t f))
     d
 
-pub acceptable-wrong : (s t : List ℕ) → acceptable s ≡ true → 1 ≤ distance (wire s) (wire t) → distance (wire s) (wire t) ≤ 3 → acceptable t ≡ false
+pub acceptable-wrong : (s t : List ℕ) → acceptable s ≡ true → 1 ≤ distance (wire s) (wire t)
+    → distance (wire s) (wire t) ≤ 3 → acceptable t ≡ false
 acceptable-wrong s t e l d = go (acceptable t) refl
   where
     go : (b : Bool) → acceptable t ≡ b → b ≡ false
     go true f =
         let same = acceptable-near s t e f d in
-        let none : distance (wire s) (wire t) ≡ 0 = ap (λ (x : List ℕ). distance (wire s) (wire x)) (sym same) ∙ distance-self (wire s) in
+        let none : distance (wire s) (wire t) ≡ 0 = ap (λ (x : List ℕ). distance (wire s) (wire x)) (sym same)
+        ∙ distance-self (wire s) in
         absurd (omega arith)
     go false f = refl

@@ -1,11 +1,9 @@
--- A list that a loop fills from the front, one store a turn: its first i elements and what is still to come are the whole.
--- Assumes nothing.
-use Prim.Native.Nat.{ℕ, zero, suc, _+_, _≤_, _<_}
-use native.Mathlib.Nat.{le-of-suc-le-suc}
+-- A list that a loop fills from the front, one store a turn: its first i elements and what is still to come are the
+-- whole. Assumes nothing.
+use Prim.Native.Nat.{ℕ, _+_, _≤_, _<_}
 use native.Mathlib.Numerals.{add-one}
-use native.Mathlib.Omega.{arith}
 use mathlib.Core.List.{List, [], _∷_, _++_, map, append-assoc, append-nil}
-use mathlib.Core.Path.{_≡_, refl, ap, ap₂, sym, _∙_}
+use mathlib.Core.Path.{_≡_, ap, ap₂, sym, _∙_}
 use lib.ListN.{length, take, drop, set, getD, drop-of-length-le}
 use lib.Seq.{drop-cons, take-suc-set, take-all}
 
@@ -39,4 +37,5 @@ fill-copy l r w i h k e =
     ∙ e)
 
 pub fill-copy-end : (l r w : List ℕ) (i : ℕ) → length l ≤ i → length r ≤ i → take i r ++ drop i l ≡ w → r ≡ w
-fill-copy-end l r w i h k e = sym (ap₂ (λ (s t : List ℕ). s ++ t) (take-all i r k) (drop-of-length-le l h) ∙ append-nil r) ∙ e
+fill-copy-end l r w i h k e =
+    sym (ap₂ (λ (s t : List ℕ). s ++ t) (take-all i r k) (drop-of-length-le l h) ∙ append-nil r) ∙ e

@@ -1,20 +1,22 @@
--- Laws of Frame.antt, in its order: what a symbol with a chosen parity is, what `symbols` and `build` make, and that what
--- is built is acceptable. Whoever uses these needs `build` and `acceptable` open nowhere.
--- Assumes nothing.
-use Prim.Native.Nat.{ℕ, zero, suc, _+_, _*_, _/_, _%_, _^_, _≤_, _<_}
+-- Laws of Frame.antt, in its order: what a symbol with a chosen parity is, what `symbols` and `build` make, and that
+-- what is built is acceptable. Whoever uses these needs `build` and `acceptable` open nowhere. Assumes nothing.
+use Prim.Native.Nat.{ℕ, zero, suc, _+_, _*_, _/_, _%_, _^_, _<_}
 use native.Mathlib.Nat.{le-of-suc-le-suc}
 use native.Mathlib.Omega.{arith}
-use mathlib.Core.Bool.{Bool, true, false, not, xor, _&&_, cond}
+use mathlib.Core.Bool.{Bool, true, false, not, xor, cond}
 use mathlib.Core.List.{List, [], _∷_, _++_, map, append-assoc, append-nil}
-use mathlib.Core.Path.{_≡_, refl, ap, ap₂, sym, _∙_, subst}
+use mathlib.Core.Path.{_≡_, refl, ap, ap₂, sym, _∙_}
 use borrow.Author.Tests.{eq-eqb, lt-leb}
-use lib.Dec.{eqb, leb, lit<}
+use lib.Dec.{lit<}
 use lib.ListN.{length, take, getD, length-append, length-map, List·getD-map, List·getD-append}
 use lib.Seq.{take-at, getD-append-add}
 use Rattle.frame.specs.Bits.{bits, number, oddOnes}
 use Rattle.frame.specs.Crc.{crc}
-use Rattle.frame.specs.Frame.{generator, stream, crcOf, dataOf, marked, even, evenSymbol, oddSymbol, symbols, build, crcRight, noneMarked, allOdd, paritiesRight, acceptable}
-use Rattle.frame.proofs.BitsLaws.{xor-self, xor-false, bits-above, bits-length, bits-number, number-bits, number-below, number-append, bits-append, bits-mod, oddOnes-append}
+use Rattle.frame.specs.Frame.{generator, stream, crcOf, dataOf, even, evenSymbol, oddSymbol, symbols, build}
+use Rattle.frame.specs.Frame.{crcRight, noneMarked, allOdd, paritiesRight, acceptable}
+use Rattle.frame.proofs.BitsLaws.{xor-self, xor-false, xor-not, bits-above, bits-length, bits-number}
+use Rattle.frame.proofs.BitsLaws.{number-bits}
+use Rattle.frame.proofs.BitsLaws.{number-below, number-append, bits-append, bits-mod, oddOnes-append}
 use Rattle.frame.proofs.CrcLaws.{crc-length}
 
 -- ---------------------------------------------------------------- the CRC of bytes
@@ -27,7 +29,8 @@ stream-data (d ∷ l) = ap₂ {B = List Bool} _++_ (bits-mod 8 d) (stream-data l
 pub stream-append : (l m : List ℕ) → stream (l ++ m) ≡ stream l ++ stream m
 unfolding stream
 stream-append [] m = refl
-stream-append (d ∷ l) m = ap (λ (s : List Bool). bits 8 d ++ s) (stream-append l m) ∙ sym (append-assoc (bits 8 d) (stream l) (stream m))
+stream-append (d ∷ l) m =
+    ap (λ (s : List Bool). bits 8 d ++ s) (stream-append l m) ∙ sym (append-assoc (bits 8 d) (stream l) (stream m))
 
 pub crcOf-data : (l : List ℕ) → crcOf (map dataOf l) ≡ crcOf l
 unfolding crcOf
@@ -62,7 +65,8 @@ symbol-below d p = rw (nine d p) at (number-below (bits 8 d ++ (p ∷ [])))
 symbol-data : (d : ℕ) (p : Bool) → dataOf (symbol d p) ≡ dataOf d
 unfolding symbol
 symbol-data d p =
-    ap dataOf (number-append (bits 8 d) (p ∷ []) ∙ ap₂ (λ (a b : ℕ). a + 2 ^ b * number (p ∷ [])) (number-bits 8 d) (bits-length 8 d))
+    ap dataOf (number-append (bits 8 d) (p ∷ [])
+    ∙ ap₂ (λ (a b : ℕ). a + 2 ^ b * number (p ∷ [])) (number-bits 8 d) (bits-length 8 d))
     ∙ low d (number (p ∷ []))
   where
     low : (d n : ℕ) → (d % 256 + 256 * n) % 256 ≡ d % 256
@@ -70,11 +74,8 @@ symbol-data d p =
 
 symbol-odd : (d : ℕ) (p : Bool) → oddOnes (bits 9 (symbol d p)) ≡ xor (oddOnes (bits 8 d)) p
 unfolding oddOnes xor
-symbol-odd d p = ap oddOnes (symbol-bits d p) ∙ oddOnes-append (bits 8 d) (p ∷ []) ∙ ap (xor (oddOnes (bits 8 d))) (last p)
-  where
-    last : (p : Bool) → xor p false ≡ p
-    last true = refl
-    last false = refl
+symbol-odd d p =
+    ap oddOnes (symbol-bits d p) ∙ oddOnes-append (bits 8 d) (p ∷ []) ∙ ap (xor (oddOnes (bits 8 d))) (xor-false p)
 
 symbol-number : (d : ℕ) (p : Bool) → d < 256 → symbol d p ≡ d + cond p 256 0
 unfolding symbol number
@@ -94,12 +95,14 @@ byte-odd d h = ap oddOnes (bits-above 8 1 d h) ∙ oddOnes-append (bits 8 d) (fa
 
 pub evenSymbol-number : (d : ℕ) (b : Bool) → d < 256 → b ≡ oddOnes (bits 9 d) → d + cond b 256 0 ≡ evenSymbol d
 unfolding evenSymbol symbol
-evenSymbol-number d b h e = ap (λ (p : Bool). d + cond p 256 0) (e ∙ byte-odd d h) ∙ sym (symbol-number d (oddOnes (bits 8 d)) h)
+evenSymbol-number d b h e =
+    ap (λ (p : Bool). d + cond p 256 0) (e ∙ byte-odd d h) ∙ sym (symbol-number d (oddOnes (bits 8 d)) h)
 
 pub oddSymbol-number : (d : ℕ) (b : Bool) → d < 256 → b ≡ oddOnes (bits 9 d) → d + cond b 0 256 ≡ oddSymbol d
 unfolding oddSymbol symbol
 oddSymbol-number d b h e =
-    turned b ∙ ap (λ (p : Bool). d + cond (not p) 256 0) (e ∙ byte-odd d h) ∙ sym (symbol-number d (not (oddOnes (bits 8 d))) h)
+    turned b ∙ ap (λ (p : Bool). d + cond (not p) 256 0) (e ∙ byte-odd d h)
+    ∙ sym (symbol-number d (not (oddOnes (bits 8 d))) h)
   where
     turned : (b : Bool) → d + cond b 0 256 ≡ d + cond (not b) 256 0
     turned true = refl
@@ -127,11 +130,9 @@ evenSymbol-even d = ap not (symbol-odd d (oddOnes (bits 8 d)) ∙ xor-self (oddO
 
 pub oddSymbol-odd : (d : ℕ) → even (oddSymbol d) ≡ false
 unfolding even oddSymbol symbol xor
-oddSymbol-odd d = ap not (symbol-odd d (not (oddOnes (bits 8 d))) ∙ xor-not (oddOnes (bits 8 d)))
-  where
-    xor-not : (b : Bool) → xor b (not b) ≡ true
-    xor-not true = refl
-    xor-not false = refl
+oddSymbol-odd d =
+    ap not (symbol-odd d (not (oddOnes (bits 8 d))) ∙ xor-not (oddOnes (bits 8 d)) (oddOnes (bits 8 d))
+    ∙ ap not (xor-self (oddOnes (bits 8 d))))
 
 -- ---------------------------------------------------------------- bytes as symbols
 

@@ -1,6 +1,5 @@
--- Results that satisfy one contract are identical: for each public call, any two results that its `ensures` allows for the
--- same arguments. `Post` is the contract as it stands in the source.
--- Assumes nothing.
+-- Results that satisfy one contract are identical: for each public call, any two results that its `ensures` allows
+-- for the same arguments. `Post` is the contract as it stands in the source. Assumes nothing.
 use mathlib.Core.Path.{_≡_, sym, _∙_}
 use Rattle.frame.proofs.parity.Reads as parity
 use Rattle.frame.proofs.crc.Reads as crc

@@ -1,10 +1,10 @@
 -- The code's register, a number of sixteen bits whose bit 0 is S15, against the specification's list S15 .. S0.
 -- Assumes nothing.
-use Prim.Native.Nat.{ℕ, zero, suc, _+_, _/_, _-_, _%_, _^_, _<_, _≤_}
+use Prim.Native.Nat.{ℕ, zero, suc, _+_, _/_, _-_, _%_, _<_, _≤_}
 use native.Mathlib.Nat.{mod-eq-of-lt}
 use native.Mathlib.Numerals.{add-one}
 use native.Mathlib.Omega.{arith}
-use mathlib.Core.Bool.{Bool, true, false, xor, _&&_}
+use mathlib.Core.Bool.{Bool, true, false, xor}
 use mathlib.Core.List.{List, [], _∷_, _++_}
 use mathlib.Core.Path.{_≡_, refl, ap, ap₂, sym, _∙_}
 use borrow.Author.Tests.{eq-eqb, ne-eqb}
@@ -27,7 +27,8 @@ half-bits : (n : ℕ) → n < 65536 → bits 15 (n / 2) ++ (false ∷ []) ≡ bi
 half-bits n h = sym (bits-above 15 1 (n / 2) (omega arith))
 
 -- the register after a zero bit, by what it feeds back
-shifted-by : (n : ℕ) (b : Bool) → n < 65536 → odd n ≡ b → shift generator (bits 16 n) false ≡ plus (bits 16 (n / 2)) (times b generator)
+shifted-by : (n : ℕ) (b : Bool) → n < 65536 → odd n ≡ b
+    → shift generator (bits 16 n) false ≡ plus (bits 16 (n / 2)) (times b generator)
 unfolding bits shift xor
 shifted-by n b h e = ap₂ (λ (s : List Bool) (c : Bool). plus s (times c generator)) (half-bits n h) (fed (odd n) ∙ e)
   where
@@ -66,10 +67,12 @@ run-none n zero h = refl
 run-none n (suc k) h = absurd (omega arith)
 
 -- a byte may be added to the register first
-pub fed-first : (n d : ℕ) → d < 256 → run generator (bits 16 (bitXor n d)) (replicate 8 false) ≡ run generator (bits 16 n) (bits 8 d)
+pub fed-first : (n d : ℕ) → d < 256
+    → run generator (bits 16 (bitXor n d)) (replicate 8 false) ≡ run generator (bits 16 n) (bits 8 d)
 fed-first n d h =
     sym
-    (run-absorb generator (bits 16 n) (bits 8 d) 8 (bits-length 16 n ∙ sym generator-length) (ap (λ (k : ℕ). k + 8) (bits-length 8 d) ∙ sym generator-length)
+    (run-absorb generator (bits 16 n) (bits 8 d) 8 (bits-length 16 n ∙ sym generator-length)
+    (ap (λ (k : ℕ). k + 8) (bits-length 8 d) ∙ sym generator-length)
     ∙ ap₂ (λ (s : List Bool) (k : ℕ). run generator s (replicate k false))
     (ap (plus (bits 16 n)) (sym (bits-above 8 8 d h)) ∙ sym (bits-xor 16 n d))
     (bits-length 8 d))

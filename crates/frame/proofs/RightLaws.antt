@@ -1,14 +1,13 @@
--- Which symbol may stand at which place: what `rightAt` says, and that a frame is acceptable where all of its twelve symbols
--- fit and the CRC is right. `rightFrom` is what the loops over twelve symbols keep.
+-- Which symbol may stand at which place: what `rightAt` says, and that a frame is acceptable where all of its twelve
+-- symbols are right and the CRC is. `rightFrom` is what the loops over twelve symbols keep.
 --   rightFrom i l   the symbols of l may stand at the places i, i + 1 .. of a frame
 -- Assumes nothing.
-use Prim.Native.Nat.{ℕ, zero, suc, _+_, _≤_, _<_}
+use Prim.Native.Nat.{ℕ, suc, _+_, _≤_, _<_}
 use native.Mathlib.Numerals.{add-one}
-use native.Mathlib.Omega.{arith}
-use mathlib.Core.Bool.{Bool, true, false, not, _&&_, cond, and-assoc, and-comm}
+use mathlib.Core.Bool.{Bool, true, false, not, _&&_, cond, and-assoc, Bool·not-not}
 use mathlib.Core.List.{List, [], _∷_}
 use mathlib.Core.Path.{_≡_, refl, ap, ap₂, sym, _∙_}
-use borrow.Author.Tests.{le-leb, lt-leb, eq-eqb, ne-eqb}
+use borrow.Author.Tests.{le-leb, lt-leb, ne-eqb}
 use lib.Dec.{eqb, eqb·suc-zero}
 use lib.ListN.{length, drop, getD, drop-of-length-le}
 use lib.Seq.{drop-cons}
@@ -28,11 +27,7 @@ right-first i s p h e f = rw (lt-leb 512 s h, e, f)
 
 pub right-other : (i s : ℕ) (p : Bool) → s < 512 → (i ≡ 0 → ⊥) → p ≡ oddOnes (bits 9 s) → p ≡ rightAt i s
 unfolding rightAt even
-right-other i s p h e f = rw (lt-leb 512 s h, ne-eqb i 0 e) (twice p ∙ ap (λ (b : Bool). not (not b)) f)
-  where
-    twice : (b : Bool) → b ≡ not (not b)
-    twice true = refl
-    twice false = refl
+right-other i s p h e f = rw (lt-leb 512 s h, ne-eqb i 0 e) (sym (Bool·not-not p) ∙ ap (λ (b : Bool). not (not b)) f)
 
 -- ---------------------------------------------------------------- all of them
 
@@ -56,7 +51,8 @@ unfolding noneMarked allOdd rightFrom rightAt
 right-odd [] i = refl
 right-odd (s ∷ l) i =
     and-swap (not (marked s)) (noneMarked l) (not (even s)) (allOdd l)
-    ∙ ap₂ (λ (b c : Bool). not (marked s) && b && c) (ap (λ (b : Bool). cond b (even s) (not (even s))) (sym (eqb·suc-zero i))) (right-odd l (suc i))
+    ∙ ap₂ (λ (b c : Bool). not (marked s) && b && c)
+    (ap (λ (b : Bool). cond b (even s) (not (even s))) (sym (eqb·suc-zero i))) (right-odd l (suc i))
 
 right-all : (l : List ℕ) → (noneMarked l && paritiesRight l) ≡ rightFrom 0 l
 unfolding noneMarked paritiesRight rightFrom rightAt

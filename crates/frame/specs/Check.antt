@@ -1,11 +1,11 @@
 -- The frame check's answer: document 01, "The finder" and "Answer numbers", in the table's order 7, 5, 9.
 --   largest        the largest number that is a received symbol
 --   someAbove l    there is a number above it in l
---   rightAt i s     the symbol s may stand at place i of a frame: not marked, even at place 0 and odd at any other
+--   rightAt i s    the symbol s may stand at place i of a frame: not marked, even at place 0 and odd at any other
 --   checkOf l      the answer of the frame check on the list l
 -- Assumes nothing.
 use Prim.Native.Nat.{ℕ}
-use mathlib.Core.Bool.{Bool, true, false, not, _&&_, _||_, cond}
+use mathlib.Core.Bool.{Bool, false, not, _&&_, _||_, cond}
 use mathlib.Core.List.{List, [], _∷_}
 use lib.Dec.{eqb, ltb}
 use lib.ListN.{length}

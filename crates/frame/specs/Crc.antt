@@ -1,5 +1,5 @@
--- The CRC, over any width and generator. A register is a list of bits, the highest first (S15 .. S0 for sixteen bits); the
--- generator is a list as long, the coefficient below the leading one first, so its length is the width.
+-- The CRC, over any width and generator. A register is a list of bits, the highest first (S15 .. S0 for sixteen bits);
+-- the generator is a list as long, the coefficient below the leading one first, so its length is the width.
 --   plus a b     bit by bit, the sum without carries (exclusive or)
 --   times b g    g where b is 1, zeros where it is 0
 --   shift g r b  the register after one more bit b: S(top) and b fed back where the generator has a one

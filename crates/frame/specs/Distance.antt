@@ -3,7 +3,7 @@
 --   distance s t   the number of places where s and t differ
 -- Assumes nothing.
 use Prim.Native.Nat.{ℕ, _+_}
-use mathlib.Core.Bool.{Bool, true, false, cond, xor}
+use mathlib.Core.Bool.{Bool, cond, xor}
 use mathlib.Core.List.{List, [], _∷_, _++_}
 use Rattle.frame.specs.Bits.{bits}
 

@@ -1,4 +1,5 @@
--- The frame of document 01, "The frame". A symbol is a number: bits 7..0 are data, bit 8 is parity, 512 or more means marked.
+-- The frame of document 01, "The frame". A symbol is a number: bits 7..0 are data, bit 8 is parity, 512 or more means
+-- marked.
 --   generator    x^16 + x^15 + x^2 + 1, below its leading term
 --   stream l     the data bits of the bytes l, bit 0 of each first
 --   crcOf l      the CRC of the bytes l: S15 is bit 0, S0 is bit 15

@@ -7,14 +7,16 @@ ghost use Rattle.frame.specs.Bits.{bits, oddOnes};
 ghost use Rattle.frame.specs.Check.{rightAt, someAbove, checkOf};
 ghost use Rattle.frame.specs.Frame.{crcOf, dataOf, evenSymbol, oddSymbol, build as buildOf, crcRight};
 
-// How many symbols a frame has, and how many of them hold the message.
+// How many symbols a frame has.
 const SYMBOLS: usize = 12;
 
+// How many data bytes it is built from.
 const BYTES: usize = 10;
 
-// A received symbol is at most this, and is marked from 512 on.
+// The largest number that is a received symbol.
 const LARGEST: u16 = 1023;
 
+// A symbol from here on is marked.
 const MARKED: u16 = 512;
 
 // Whether the nine bits of a symbol have an odd number of ones.

@@ -32,12 +32,12 @@ settled-filling e host acc ent tk ha h f = record {
   register = f .register;
   reading = record { stage = f .reading .stage; full = f .reading .full; number = f .reading .number; bytes = f .reading .bytes };
   entered-is = f .entered-is;
-  taken-is = f .taken-is
-  }
+  taken-is = f .taken-is;
+}
 
 module _ (h : Heard) (i : Inbox) (host : Host) (acc ent tk : List Message) (ha : ℕ) (f : Filling h i host acc ent tk ha)
-  (l : List ℕ) (acked : ℕ) (carries : Carries acc l acked) (upto : acked ≤ length ent)
-  (newer : 2 * ha + num (h .valid) ≤ 2 * acked + num (saidBy l .valid)) where
+    (l : List ℕ) (acked : ℕ) (carries : Carries acc l acked) (upto : acked ≤ length ent)
+    (newer : 2 * ha + num (h .valid) ≤ 2 * acked + num (saidBy l .valid)) where
   next : enters true (saidBy l) i ≡ true → (acked ≡ length ent) × (length tk ≡ length ent) × (saidBy l .valid ≡ true)
   next = enters-next (length ent) (length tk) ha acked (h .valid) (h .toggle) upto (saidBy l .valid) (saidBy l .toggle) (inOf i) (carries .toggle) newer (f .receiving)
 
@@ -51,19 +51,22 @@ module _ (h : Heard) (i : Inbox) (host : Host) (acc ent tk : List Message) (ha :
     register = λ q. ap (λ (n : ℕ). getD acc n nothing) (next e .1) ∙ message;
     reading = record { stage = f .reading .stage; full = λ q. refl; number = λ q. absurd (idle q); bytes = λ q. absurd (idle q) };
     entered-is = more;
-    taken-is = f .taken-is
-    }
+    taken-is = f .taken-is;
+  }
     where
       there : (acked < length acc) × (getD acc acked nothing ≡ messageIs l)
       there = carries .message (next e .2)
+
       message : getD acc (length ent) nothing ≡ messageIs l
       message = ap (λ (n : ℕ). getD acc n nothing) (sym (next e .0)) ∙ there .1
+
       idle : 0 < host .stage → ⊥
       idle q = full-not (i .full) (f .reading .full q) e
         where
           full-not : (b : Bool) → b ≡ true → (not b && (saidBy l .valid && Bool·beq (saidBy l .toggle) (i .expected))) ≡ true → ⊥
           full-not true q r = false≢true r
           full-not false q r = false≢true q
+
       more : ent ++ (messageIs l ∷ []) ≡ take (length (ent ++ (messageIs l ∷ []))) acc
       more = part-more nothing acc ent (messageIs l) (f .entered-is) (subst (λ (n : ℕ). n < length acc) (next e .0) (there .0)) message
   heard-filling false e = record {
@@ -71,5 +74,5 @@ module _ (h : Heard) (i : Inbox) (host : Host) (acc ent tk : List Message) (ha :
     register = f .register;
     reading = record { stage = f .reading .stage; full = f .reading .full; number = f .reading .number; bytes = f .reading .bytes };
     entered-is = f .entered-is;
-    taken-is = f .taken-is
-    }
+    taken-is = f .taken-is;
+  }

@@ -34,8 +34,8 @@ hostedAs s e h acc tk = record {
   loaded = s .loaded;
   acknowledged = s .acknowledged;
   entered = s .entered;
-  taken = tk
-  }
+  taken = tk;
+}
 
 -- what a host's call never touches
 pub record Unseen (e e′ : End) : Type 0 where
@@ -48,9 +48,9 @@ pub record Unseen (e e′ : End) : Type 0 where
 
 module _ (a b : Side) (ca cb : List Cell) (D E pa pb : ℕ) (v : Inv a b ca cb D E pa pb) (e : End) (h : Host) (acc tk : List Message) where
   pub hosted-as : Unseen (a .end) e → Holding e acc (a .loaded) (a .acknowledged)
-    → Filling (a .end .heard) (e .inbox) h (b .accepted) (a .entered) tk (v .ba .ha)
-    → Filling (b .end .heard) (b .end .inbox) (b .host) acc (b .entered) (b .taken) (v .ab .ha)
-    → ((i : ℕ) → DataOk acc (frameAt ca i)) → Inv (hostedAs a e h acc tk) b ca cb D E pa pb
+      → Filling (a .end .heard) (e .inbox) h (b .accepted) (a .entered) tk (v .ba .ha)
+      → Filling (b .end .heard) (b .end .inbox) (b .host) acc (b .entered) (b .taken) (v .ab .ha)
+      → ((i : ℕ) → DataOk acc (frameAt ca i)) → Inv (hostedAs a e h acc tk) b ca cb D E pa pb
   hosted-as u holding filling far frames = record {
     fit-a = record {
       good = u .good;
@@ -64,10 +64,10 @@ module _ (a b : Side) (ca cb : List Cell) (D E pa pb : ℕ) (v : Inv a b ca cb D
         places = v .fit-a .stream .places;
         same = v .fit-a .stream .same;
         ranks = v .fit-a .stream .ranks;
-        answers = v .fit-a .stream .answers
-        };
-      sync = subst (λ (c : Collector). Sync c (cellAt cb E)) (sym (u .collector)) (v .fit-a .sync)
+        answers = v .fit-a .stream .answers;
       };
+      sync = subst (λ (c : Collector). Sync c (cellAt cb E)) (sym (u .collector)) (v .fit-a .sync);
+    };
     fit-b = v .fit-b;
     ab = record {
       ha = v .ab .ha;
@@ -80,8 +80,8 @@ module _ (a b : Side) (ca cb : List Cell) (D E pa pb : ℕ) (v : Inv a b ca cb D
       answered = v .ab .answered;
       answers = v .ab .answers;
       frames = frames;
-      acks = v .ab .acks
-      };
+      acks = v .ab .acks;
+    };
     ba = record {
       ha = v .ba .ha;
       holding = v .ba .holding;
@@ -93,9 +93,9 @@ module _ (a b : Side) (ca cb : List Cell) (D E pa pb : ℕ) (v : Inv a b ca cb D
       answered = v .ba .answered;
       answers = v .ba .answers;
       frames = v .ba .frames;
-      acks = v .ba .acks
-      }
-    }
+      acks = v .ba .acks;
+    };
+  }
 
 -- one accepted message more
 module _ (acc : List Message) (m : Message) where
@@ -105,8 +105,8 @@ module _ (acc : List Message) (m : Message) where
   pub grown-carries : (l : List ℕ) (n : ℕ) → Carries acc l n → Carries (acc ++ (m ∷ [])) l n
   grown-carries l n c = record {
     toggle = c .toggle;
-    message = λ q. let t = c .message q in (omega (arith, length-more acc m, t .0), at-grown n (t .0) ∙ t .1)
-    }
+    message = λ q. let t = c .message q in (omega (arith, length-more acc m, t .0), at-grown n (t .0) ∙ t .1);
+  }
 
   pub grown-filling : (h : Heard) (i : Inbox) (host : Host) (ent tk : List Message) (ha : ℕ) → length ent ≤ length acc → Filling h i host acc ent tk ha → Filling h i host (acc ++ (m ∷ [])) ent tk ha
   grown-filling h i host ent tk ha o f = record {
@@ -114,8 +114,8 @@ module _ (acc : List Message) (m : Message) where
     register = λ q. at-grown (length tk) (below (i .full) q (f .receiving .taken)) ∙ f .register q;
     reading = f .reading;
     entered-is = part-grows acc ent m o (f .entered-is);
-    taken-is = part-grows acc tk m (omega (arith, f .receiving .taken)) (f .taken-is)
-    }
+    taken-is = part-grows acc tk m (omega (arith, f .receiving .taken)) (f .taken-is);
+  }
     where
       below : (b : Bool) → b ≡ true → length ent ≡ length tk + num b → length tk < length acc
       below true q e = omega arith

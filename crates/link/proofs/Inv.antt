@@ -67,8 +67,8 @@ half : (x n p q : ℕ) → 2 * x + n ≤ p + q → q ≤ p + 1 → x ≤ p
 half x n p q h k = omega arith
 
 module _ {near far : Side} {cn cf : List Cell} {D E he : ℕ} (w : Way near far cn cf D E he)
-  (ranks : (i : ℕ) → rank (frameAt cn (suc i)) ≤ rank (frameAt cn i))
-  (answers : (i : ℕ) → frameAt cf (suc i) .entered ≤ frameAt cf i .entered) where
+    (ranks : (i : ℕ) → rank (frameAt cn (suc i)) ≤ rank (frameAt cn i))
+    (answers : (i : ℕ) → frameAt cf (suc i) .entered ≤ frameAt cf i .entered) where
   pub acknowledged-entered : near .acknowledged ≤ length (far .entered)
   acknowledged-entered = le-trans (w .hearing .from) (he-entered w answers)
 

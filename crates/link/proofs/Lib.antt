@@ -1,3 +1,4 @@
+pub mod Views
 pub mod Words
 pub mod Cells
 pub mod Collecting
@@ -19,3 +20,4 @@ pub mod Progress
 pub mod Arrival
 pub mod SlotProgress
 pub mod Part2
+pub mod Rules

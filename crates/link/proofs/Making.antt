@@ -82,7 +82,7 @@ module _ (e : End) (fine : bad e ≡ false) (shaped : Shaped e) where
   made-end = movedOn (started true e)
 
   module _ (acc : List Message) (ld ackd he : ℕ) (holding : Holding e acc ld ackd)
-    (hearing : Hearing ackd he (e .heard .ack) (e .heard .togack)) (upto : he ≤ ld) where
+      (hearing : Hearing ackd he (e .heard .ack) (e .heard .togack)) (upto : he ≤ ld) where
     acks-is : num (acked e) + ackd ≡ he
     unfolding acked
     acks-is = acks-heard (e .heard .ack) (e .heard .togack) (e .sender .toggle) ackd he hearing (holding .sending .toggle)
@@ -125,8 +125,8 @@ module _ (e : End) (fine : bad e ≡ false) (shaped : Shaped e) where
       sending = third;
       valid = valid-is;
       pending = pending-is (loads one) refl;
-      sent = λ r. sent-is (loads one) (acked e) refl refl r ∙ sym (made-message (loads one) refl)
-      })
+      sent = λ r. sent-is (loads one) (acked e) refl refl r ∙ sym (made-message (loads one) refl);
+    })
 
     -- the frame as a cell carries it, with the counts after it
     abbrev frame : ℕ → Frame
@@ -146,11 +146,11 @@ module _ (e : End) (fine : bad e ≡ false) (shaped : Shaped e) where
     unfolding frameStart
     made-data n = record {
       toggle = ap num (made-says .toggle) ∙ made-holding .sending .toggle;
-      message = λ v. at (made-end .sender .ready) refl (sym valid-end ∙ v)
-      }
+      message = λ v. at (made-end .sender .ready) refl (sym valid-end ∙ v);
+    }
       where
         at : (r : Bool) → made-end .sender .ready ≡ r → not (made-end .sender .ready) ≡ true
-          → (cond (acked e) (ackd + 1) ackd < length acc) × (getD acc (cond (acked e) (ackd + 1) ackd) nothing ≡ messageIs (build ten))
+            → (cond (acked e) (ackd + 1) ackd < length acc) × (getD acc (cond (acked e) (ackd + 1) ackd) nothing ≡ messageIs (build ten))
         at true q h = absurd (false≢true (sym (ap not q) ∙ h))
         at false q h = (sent-below _ _ _ (outOf made-end) (made-holding .sending) q, made-holding .sent q)
 
@@ -158,5 +158,5 @@ module _ (e : End) (fine : bad e ≡ false) (shaped : Shaped e) where
   made-ack ent tk ha ackd ld valid toggle r h o u n = record {
     upto = rw (made-says .ack) (acknowledge-made ent tk ha ackd ld valid toggle (inOf (e .inbox)) r h o u);
     some = rw (made-says .ack) (r .some);
-    toggle = ap num (made-says .togack) ∙ r .register
-    }
+    toggle = ap num (made-says .togack) ∙ r .register;
+  }

@@ -30,8 +30,8 @@ take-held acc n true m h =
 take-held acc n false m h = append-nil (take n acc) ∙ ap (λ (k : ℕ). take k acc) (sym (add-zero n))
 
 module _ {near far : Side} {cn cf : List Cell} {D E he : ℕ} (w : Way near far cn cf D E he)
-  (ranks : (i : ℕ) → rank (frameAt cn (suc i)) ≤ rank (frameAt cn i))
-  (answers : (i : ℕ) → frameAt cf (suc i) .entered ≤ frameAt cf i .entered) where
+    (ranks : (i : ℕ) → rank (frameAt cn (suc i)) ≤ rank (frameAt cn i))
+    (answers : (i : ℕ) → frameAt cf (suc i) .entered ≤ frameAt cf i .entered) where
   abbrev acc : List Message
   acc = near .accepted
 
@@ -53,8 +53,10 @@ module _ {near far : Side} {cn cf : List Cell} {D E he : ℕ} (w : Way near far 
     where
       less : ent < near .loaded
       less = ltb-true ent (near .loaded) q
+
       from : near .acknowledged ≤ ent
       from = acknowledged-entered w ranks answers
+
       go : (r : Bool) → near .end .sender .ready ≡ r → near .loaded + num r ≡ near .acknowledged + 1 → (ent < length acc) × (getD acc ent nothing ≡ messageSent (near .end))
       go true e l = absurd (omega (arith, less, from))
       go false e l =
@@ -66,10 +68,13 @@ module _ {near far : Side} {cn cf : List Cell} {D E he : ℕ} (w : Way near far 
     where
       from : near .acknowledged ≤ ent
       from = acknowledged-entered w ranks answers
+
       next : near .loaded ≤ near .acknowledged + 1
       next = loaded-next w
+
       order : ent ≤ near .loaded
       order = w .order
+
       go : (b : Bool) → ltb ent (near .loaded) ≡ b → ent + num b ≡ near .loaded
       go true t = omega (arith, ltb-true ent (near .loaded) t, from, next, order)
       go false t = omega (arith, ltb-false ent (near .loaded) t, from, next, order)
@@ -89,6 +94,7 @@ module _ {near far : Side} {cn cf : List Cell} {D E he : ℕ} (w : Way near far 
           ap (λ (l : List Message). l ++ registerHolds far) (w .filling .taken-is)
           ∙ take-held acc (length (far .taken)) _ _ full-there
           ∙ ap (λ (n : ℕ). take n acc) (sym (w .filling .receiving .taken))
+
       sender : take ent acc ++ senderHolds near far ≡ take (near .loaded) acc
       sender = take-held acc ent _ _ sender-there ∙ ap (λ (n : ℕ). take n acc) loaded-is
 
@@ -101,8 +107,9 @@ module _ {near far : Side} {cn cf : List Cell} {D E he : ℕ} (w : Way near far 
 pub nothing-lost : NothingLost
 nothing-lost D E es q =
     let k = run-kept D E es start q (start-kept D E) in
-    let v = k .inv in
-    (in-turn (v .ab) (v .fit-a .stream .ranks) (v .fit-b .stream .answers),
-    in-turn (v .ba) (v .fit-b .stream .ranks) (v .fit-a .stream .answers),
-    few (v .ab) (v .fit-a .stream .ranks) (v .fit-b .stream .answers),
-    few (v .ba) (v .fit-b .stream .ranks) (v .fit-a .stream .answers))
+    let v = k .inv in (
+      in-turn (v .ab) (v .fit-a .stream .ranks) (v .fit-b .stream .answers),
+      in-turn (v .ba) (v .fit-b .stream .ranks) (v .fit-a .stream .answers),
+      few (v .ab) (v .fit-a .stream .ranks) (v .fit-b .stream .answers),
+      few (v .ba) (v .fit-b .stream .ranks) (v .fit-a .stream .answers),
+    )

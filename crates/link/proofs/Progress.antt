@@ -96,8 +96,8 @@ module _ {a b : Side} {ca cb : List Cell} {D E pa k n₀ t₁ t₂ t₃ n : ℕ}
     answers = g .answers;
     in-step-a = λ h p. ap (λ (x : Collector). x .count) (host-collector c (a .end)) ∙ g .in-step-a h p;
     heard = g .heard;
-    done = g .done
-    }
+    done = g .done;
+  }
 
   pub host-b : Prog a (hosted c b) ca cb D E pa k n₀ t₁ t₂ t₃ n m
   host-b = record {
@@ -112,5 +112,5 @@ module _ {a b : Side} {ca cb : List Cell} {D E pa k n₀ t₁ t₂ t₃ n : ℕ}
     answers = g .answers;
     in-step-a = g .in-step-a;
     heard = g .heard;
-    done = g .done
-    }
+    done = g .done;
+  }

@@ -46,8 +46,8 @@ readIn u i = record {
   full = cond u false (i .full);
   toggle = i .toggle;
   number = i .number;
-  bytes = i .bytes
-  }
+  bytes = i .bytes;
+}
 
 abbrev endBy : Bool → Bool → End → End
 endBy u x e = record {
@@ -59,19 +59,19 @@ endBy u x e = record {
     confirmed = e .outbox .confirmed;
     number = e .outbox .number;
     ping = e .outbox .ping;
-    bytes = e .outbox .bytes
-    };
+    bytes = e .outbox .bytes;
+  };
   collector = e .collector;
   heard = e .heard;
-  inbox = readIn u (e .inbox)
-  }
+  inbox = readIn u (e .inbox);
+}
 
 abbrev hostBy : Bool → Bool → Bool → ℕ → Host → Host
 hostBy s t u w h = pickHost s (record {
   stage = cond t (cond (odd (w / 32768)) 1 0) (cond u 0 (h .stage + 1));
   number = cond t (w / 256 % 16) (h .number);
-  bytes = cond t [] (h .bytes ++ (w % 256 ∷ w / 256 ∷ []))
-  }) h
+  bytes = cond t [] (h .bytes ++ (w % 256 ∷ w / 256 ∷ []));
+}) h
 
 -- s: a receive-side register; t: 3.2313; u: 3.2317; x: 3.2308; w: the value
 abbrev readBy : Bool → Bool → Bool → Bool → ℕ → Side → Side
@@ -128,17 +128,20 @@ module _ (a b : Side) (ca cb : List Cell) (D E pa pb : ℕ) (i : Inv a b ca cb D
     register = fill .register;
     reading = begins (box .full) full-is refl;
     entered-is = fill .entered-is;
-    taken-is = fill .taken-is
-    })
+    taken-is = fill .taken-is;
+  })
     where
       value-is : status (a .end) ≡ 32768 * num (box .full) + 16384 * num (box .toggle) + 256 * box .number + a .end .heard .health
       value-is = rw (bit-num (box .full) 32768, bit-num (box .toggle) 16384)
+
       full-is : odd (status (a .end) / 32768) ≡ box .full
       full-is = odd-is (box .full) (status (a .end) / 32768) (ap (λ (n : ℕ). n / 32768 % 2) value-is
           ∙ status-full (num (box .full)) (num (box .toggle)) (box .number) (a .end .heard .health) (num-le (box .full)) (num-le (box .toggle)) (good (a .end) (i .fit-a .good) .got) (good (a .end) (i .fit-a .good) .partner))
+
       number-is : status (a .end) / 256 % 16 ≡ box .number
       number-is = ap (λ (n : ℕ). n / 256 % 16) value-is
           ∙ status-number (num (box .full)) (num (box .toggle)) (box .number) (a .end .heard .health) (num-le (box .full)) (num-le (box .toggle)) (good (a .end) (i .fit-a .good) .got) (good (a .end) (i .fit-a .good) .partner)
+
       begins : (f : Bool) → odd (status (a .end) / 32768) ≡ f → box .full ≡ f → HostOk (hostBy true true false (status (a .end)) (a .host)) (readIn false box)
       begins true p q = rw p (record { stage = omega arith; full = λ h. q; number = λ h. number-is; bytes = λ h. refl })
       begins false p q = rw p (record { stage = omega arith; full = λ h. absurd (omega arith); number = λ h. absurd (omega arith); bytes = λ h. absurd (omega arith) })
@@ -168,11 +171,11 @@ module _ (a b : Side) (ca cb : List Cell) (D E pa pb : ℕ) (i : Inv a b ca cb D
         stage = omega arith;
         full = λ z. full;
         number = λ z. fill .reading .number some;
-        bytes = λ z. bytes-more (omega arith) ∙ ap (λ (k : ℕ). take k (box .bytes)) now
-        };
+        bytes = λ z. bytes-more (omega arith) ∙ ap (λ (k : ℕ). take k (box .bytes)) now;
+      };
       entered-is = fill .entered-is;
-      taken-is = fill .taken-is
-      })
+      taken-is = fill .taken-is;
+    })
       where
         now : 2 * suc n ≡ 2 * (a .host .stage + 1 - 1)
         now = omega arith
@@ -184,11 +187,12 @@ module _ (a b : Side) (ca cb : List Cell) (D E pa pb : ℕ) (i : Inv a b ca cb D
       register = λ z. absurd (false≢true z);
       reading = record { stage = omega arith; full = λ z. absurd (omega arith); number = λ z. absurd (omega arith); bytes = λ z. absurd (omega arith) };
       entered-is = fill .entered-is;
-      taken-is = part-more nothing (b .accepted) (a .taken) (messageRead (a .host) (pair (box .bytes) n)) (fill .taken-is) below (fill .register full ∙ sym message-is)
-      })
+      taken-is = part-more nothing (b .accepted) (a .taken) (messageRead (a .host) (pair (box .bytes) n)) (fill .taken-is) below (fill .register full ∙ sym message-is);
+    })
       where
         message-is : messageRead (a .host) (pair (box .bytes) n) ≡ messageAt box
         message-is = λ j. record { number = fill .reading .number some j; bytes = (bytes-more (omega arith) ∙ take-all (2 * suc n) (box .bytes) (omega (arith, i .fit-a .shaped .eight-in))) j }
+
         below : length (a .taken) < length (b .accepted)
         below = let f : num (box .full) ≡ 1 = ap num full in omega (arith, fill .receiving .taken, i .ba .order, i .ba .holding .sending .accepted)
 
@@ -266,6 +270,7 @@ module _ (a b : Side) (ca cb : List Cell) (D E pa pb : ℕ) (i : Inv a b ca cb D
             let u : eqb r 2317 ≡ false = ne-eqb r 2317 (λ z. omega arith) in
             by true false false _ h (ne-eqb r 2313 (λ z. omega arith)) u (pair-value n (omega arith))
             (middle-kept a b ca cb D E pa pb i (eqb r 2308) n q (omega arith) (fine false u) (shaped false u))
+
         go : (n : ℕ) → a .host .stage ≡ n → n ≤ 4 → Inv (hosted (read r) a) b ca cb D E pa pb
         go zero q m =
             let k : r ≡ 2313 = omega arith in

@@ -59,10 +59,10 @@ reset-fit = record {
     places = λ i h. absurd (omega arith);
     same = λ i h. refl;
     ranks = λ i. le-refl _;
-    answers = λ i. le-refl _
-    };
-  sync = record { place = λ h. absurd (omega arith); prefix = refl }
-  }
+    answers = λ i. le-refl _;
+  };
+  sync = record { place = λ h. absurd (omega arith); prefix = refl };
+}
 
 reset-way : (D E : ℕ) → Way resetSide resetSide [] [] D E 0
 unfolding odd
@@ -72,15 +72,15 @@ reset-way D E = record {
     sending = omega arith;
     valid = refl;
     pending = λ h. absurd (false≢true h);
-    sent = λ h. absurd (true≢false h)
-    };
+    sent = λ h. absurd (true≢false h);
+  };
   filling = record {
     receiving = omega arith;
     register = λ h. absurd (false≢true h);
     reading = record { stage = omega arith; full = λ h. absurd (omega arith); number = λ h. absurd (omega arith); bytes = λ h. absurd (omega arith) };
     entered-is = refl;
-    taken-is = refl
-    };
+    taken-is = refl;
+  };
   hearing = omega arith;
   order = omega arith;
   newest = silent-rank;
@@ -88,8 +88,8 @@ reset-way D E = record {
   answered = omega arith;
   answers = omega arith;
   frames = λ i. silent-data;
-  acks = λ i. silent-ack
-  }
+  acks = λ i. silent-ack;
+}
 
 pub start-kept : (D E : ℕ) → Kept D E start
 start-kept D E = record { ca = []; cb = []; pa = 0; pb = 0; slots = refl; inv = record { fit-a = reset-fit; fit-b = reset-fit; ab = reset-way D E; ba = reset-way E D } }
@@ -107,24 +107,24 @@ step-kept D E (slot ha hb) w q k = record {
   pa = _;
   pb = _;
   slots = ap suc (k .slots);
-  inv = slot-kept w (k .ca) (k .cb) D E (k .pa) (k .pb) ha hb (k .inv)
-  }
+  inv = slot-kept w (k .ca) (k .cb) D E (k .pa) (k .pb) ha hb (k .inv);
+}
 step-kept D E (atA c) w q k = record {
   ca = k .ca;
   cb = k .cb;
   pa = k .pa;
   pb = k .pb;
   slots = k .slots;
-  inv = host-kept (w .a) (w .b) (k .ca) (k .cb) D E (k .pa) (k .pb) (k .inv) c q
-  }
+  inv = host-kept (w .a) (w .b) (k .ca) (k .cb) D E (k .pa) (k .pb) (k .inv) c q;
+}
 step-kept D E (atB c) w q k = record {
   ca = k .ca;
   cb = k .cb;
   pa = k .pa;
   pb = k .pb;
   slots = k .slots;
-  inv = exchanged (host-kept (w .b) (w .a) (k .cb) (k .ca) E D (k .pb) (k .pa) (exchanged (k .inv)) c q)
-  }
+  inv = exchanged (host-kept (w .b) (w .a) (k .cb) (k .ca) E D (k .pb) (k .pa) (exchanged (k .inv)) c q);
+}
 
 pub run-kept : (D E : ℕ) (es : List Event) (w : World) → ruled D E es w ≡ true → Kept D E w → Kept D E (run D E es w)
 unfolding run ruled

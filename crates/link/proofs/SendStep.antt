@@ -60,8 +60,8 @@ module _ (a b : Side) (ca cb : List Cell) (D E pa pb : ℕ) (v : Inv a b ca cb D
     answered = v .ab .answered;
     answers = v .ab .answers;
     frames = frames;
-    acks = v .ab .acks
-    }
+    acks = v .ab .acks;
+  }
     where
       frames : (i : ℕ) → DataOk (a .accepted) (frameAt (c ∷ ca) i)
       frames zero = v .ab .frames 0
@@ -79,8 +79,8 @@ module _ (a b : Side) (ca cb : List Cell) (D E pa pb : ℕ) (v : Inv a b ca cb D
     answered = v .ba .answered;
     answers = v .ba .answers;
     frames = v .ba .frames;
-    acks = acks
-    }
+    acks = acks;
+  }
     where
       acks : (i : ℕ) → AckOk (b .acknowledged) (frameAt (c ∷ ca) i)
       acks zero = v .ba .acks 0
@@ -91,9 +91,8 @@ module _ (a b : Side) (ca cb : List Cell) (D E pa pb : ℕ) (v : Inv a b ca cb D
     fit-a = record { good = good; shaped = shaped; stream = same-stream; sync = v .fit-a .sync };
     fit-b = v .fit-b;
     ab = same-ab;
-    ba = same-ba
-    }
-
+    ba = same-ba;
+  }
 
 -- a new frame is made
 module _ (a b : Side) (ca cb : List Cell) (D E pa pb : ℕ) (v : Inv a b ca cb D E pa pb) (t : eqb (a .end .sender .position) 0 ≡ true) where
@@ -143,8 +142,8 @@ module _ (a b : Side) (ca cb : List Cell) (D E pa pb : ℕ) (v : Inv a b ca cb D
     answered = v .ab .answered;
     answers = v .ab .answers;
     frames = frames;
-    acks = λ i. record { upto = wider _ _ _ _ (v .ab .acks i .upto) (more (acked (a .end)) (a .acknowledged)); some = v .ab .acks i .some; toggle = v .ab .acks i .toggle }
-    }
+    acks = λ i. record { upto = wider _ _ _ _ (v .ab .acks i .upto) (more (acked (a .end)) (a .acknowledged)); some = v .ab .acks i .some; toggle = v .ab .acks i .toggle };
+  }
     where
       frames : (i : ℕ) → DataOk (a .accepted) (frameAt (n ∷ ca) i)
       frames zero = made-data (a .end) (v .fit-a .good) (v .fit-a .shaped) (a .accepted) (a .loaded) (a .acknowledged) pa (v .ab .holding) (v .ab .hearing) he≤ (length (a .entered))
@@ -163,8 +162,8 @@ module _ (a b : Side) (ca cb : List Cell) (D E pa pb : ℕ) (v : Inv a b ca cb D
     answered = le-refl _;
     answers = v .ba .answers;
     frames = v .ba .frames;
-    acks = acks
-    }
+    acks = acks;
+  }
     where
       acks : (i : ℕ) → AckOk (b .acknowledged) (frameAt (n ∷ ca) i)
       acks zero = made-ack (a .end) (v .fit-a .good) (v .fit-a .shaped) (length (a .entered)) (length (a .taken)) (v .ba .ha) (b .acknowledged) (b .loaded) (a .end .heard .valid) (a .end .heard .toggle) (v .ba .filling .receiving) (heard-current (v .ba) (v .fit-b .stream .ranks)) (v .ba .order) (loaded-next (v .ba)) (made a .acked)
@@ -175,14 +174,15 @@ module _ (a b : Side) (ca cb : List Cell) (D E pa pb : ℕ) (v : Inv a b ca cb D
     fit-a = record { good = good; shaped = shaped; stream = new-stream; sync = v .fit-a .sync };
     fit-b = v .fit-b;
     ab = new-ab;
-    ba = new-ba
-    }
+    ba = new-ba;
+  }
 
 pub sent-kept : (a b : Side) (ca cb : List Cell) (D E pa pb : ℕ) → Inv a b ca cb D E pa pb → (t : Bool) → eqb (a .end .sender .position) 0 ≡ t → Inv (sends a) b (cellSent t a ca ∷ ca) cb (suc D) E pa pb
 sent-kept a b ca cb D E pa pb v t e = subst (λ (s : Side). Inv s b (cellSent t a ca ∷ ca) cb (suc D) E pa pb) (sym is) (go t e is)
   where
     is : sends a ≡ sentAs t a
     is = sends-as a t (v .fit-a .good) e
+
     go : (t : Bool) → eqb (a .end .sender .position) 0 ≡ t → sends a ≡ sentAs t a → Inv (sentAs t a) b (cellSent t a ca ∷ ca) cb (suc D) E pa pb
     go true e is = new-sent a b ca cb D E pa pb v e (subst (λ (s : Side). bad (s .end) ≡ false) is (after-good Call.send (a .end) (v .fit-a .good))) (subst (λ (s : Side). Shaped (s .end)) is (after-shaped Call.send (a .end) (v .fit-a .shaped)))
     go false e is = same-sent a b ca cb D E pa pb v e (subst (λ (s : Side). bad (s .end) ≡ false) is (after-good Call.send (a .end) (v .fit-a .good))) (subst (λ (s : Side). Shaped (s .end)) is (after-shaped Call.send (a .end) (v .fit-a .shaped)))

@@ -29,8 +29,8 @@ sentAs b s = record {
   loaded = cond (b && loads (stepOne (acked (s .end)) (s .end))) (s .loaded + 1) (s .loaded);
   acknowledged = cond (b && acked (s .end)) (s .acknowledged + 1) (s .acknowledged);
   entered = s .entered;
-  taken = s .taken
-  }
+  taken = s .taken;
+}
 
 pub sends-as : (s : Side) (b : Bool) → bad (s .end) ≡ false → eqb (s .end .sender .position) 0 ≡ b → sends s ≡ sentAs b s
 sends-as s b good t = rw (send-good (s .end) good, t)
@@ -39,8 +39,8 @@ abbrev pub made : Side → Frame
 made s = record {
   ten = tenBytes (acked (s .end)) (loads (stepOne (acked (s .end)) (s .end))) (stepOne (acked (s .end)) (s .end));
   acked = cond (acked (s .end)) (s .acknowledged + 1) (s .acknowledged);
-  entered = length (s .entered)
-  }
+  entered = length (s .entered);
+}
 
 abbrev pub cellSent : Bool → Side → List Cell → Cell
 cellSent true s cs = record { frame = made s; place = 0 }
@@ -56,11 +56,11 @@ next-position p n e = go (eqb p 11) refl
 
 module _ (e : End) (sent : List ℕ) (cs : List Cell) (stream : Stream e sent cs) (c : Cell) where
   pub stream-push : (e′ : End) → c .place ≡ e .sender .position
-    → e′ .sender .position ≡ cond (eqb (e .sender .position) 11) 0 (e .sender .position + 1)
-    → (0 < e′ .sender .position → e′ .sender .symbols ≡ build (c .frame .ten)) → length (c .frame .ten) ≡ 10
-    → (0 < c .place → frameAt cs 0 ≡ c .frame) → rank (frameAt cs 0) ≤ rank (c .frame)
-    → frameAt cs 0 .entered ≤ c .frame .entered
-    → Stream e′ (symbolIn c ∷ sent) (c ∷ cs)
+      → e′ .sender .position ≡ cond (eqb (e .sender .position) 11) 0 (e .sender .position + 1)
+      → (0 < e′ .sender .position → e′ .sender .symbols ≡ build (c .frame .ten)) → length (c .frame .ten) ≡ 10
+      → (0 < c .place → frameAt cs 0 ≡ c .frame) → rank (frameAt cs 0) ≤ rank (c .frame)
+      → frameAt cs 0 .entered ≤ c .frame .entered
+      → Stream e′ (symbolIn c ∷ sent) (c ∷ cs)
   stream-push e′ at moves holds long same ranks answers = record {
     symbols = ap (λ (l : List ℕ). symbolIn c ∷ l) (stream .symbols);
     position = moves ∙ next-position (e .sender .position) (length cs) (stream .position);
@@ -70,24 +70,29 @@ module _ (e : End) (sent : List ℕ) (cs : List Cell) (stream : Stream e sent cs
     places = at-places;
     same = sames;
     ranks = all-ranks;
-    answers = all-answers
-    }
+    answers = all-answers;
+  }
     where
       tens : (i : ℕ) → length (frameAt (c ∷ cs) i .ten) ≡ 10
       tens zero = long
       tens (suc i) = stream .ten i
+
       withins : (i : ℕ) → cellAt (c ∷ cs) i .place < 12
       withins zero = omega (arith, stream .position)
       withins (suc i) = stream .within i
+
       at-places : (i : ℕ) → i < length (c ∷ cs) → (cellAt (c ∷ cs) i .place + (i + 1)) % 12 ≡ length (c ∷ cs) % 12
       at-places zero h = omega (arith, stream .position)
       at-places (suc i) h = let p : i < length cs = omega arith in omega (arith, stream .places i p)
+
       sames : (i : ℕ) → 0 < cellAt (c ∷ cs) i .place → frameAt (c ∷ cs) (suc i) ≡ frameAt (c ∷ cs) i
       sames zero h = same h
       sames (suc i) h = stream .same i h
+
       all-ranks : (i : ℕ) → rank (frameAt (c ∷ cs) (suc i)) ≤ rank (frameAt (c ∷ cs) i)
       all-ranks zero = ranks
       all-ranks (suc i) = stream .ranks i
+
       all-answers : (i : ℕ) → frameAt (c ∷ cs) (suc i) .entered ≤ frameAt (c ∷ cs) i .entered
       all-answers zero = answers
       all-answers (suc i) = stream .answers i

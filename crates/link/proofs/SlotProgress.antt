@@ -63,7 +63,7 @@ tooks-count s x = refl
 
 -- one end takes what arrives, having been in step
 module _ (a b : Side) (ca cb : List Cell) (D E pa pb n₀ : ℕ) (v : Inv a b ca cb (suc D) E pa pb)
-  (step : InStep (b .end .collector) ca (suc D) (suc n₀) (length ca)) (h : Harm) (clear : (isSound h || not (arrives D (a .sent))) ≡ true) where
+    (step : InStep (b .end .collector) ca (suc D) (suc n₀) (length ca)) (h : Harm) (clear : (isSound h || not (arrives D (a .sent))) ≡ true) where
   sound-arrival : D < length ca → arrive D h a b ≡ tookAs (symbolIn (cellAt ca D)) b
   sound-arrival t = ap (λ (x : Harm). arrive D x a b) (is-sound h _ (does-arrive a b ca cb D E pa pb v t) clear) ∙ arrive-sound a b ca cb D E pa pb v t
 
@@ -86,7 +86,7 @@ module _ (a b : Side) (ca cb : List Cell) (D E pa pb n₀ : ℕ) (v : Inv a b ca
     arrival-heard = rw (does-arrive a b ca cb D E pa pb v there, is-sound h _ (does-arrive a b ca cb D E pa pb v there) clear, symbol-is a b ca cb D E pa pb v there) accepted
 
 module _ (a b : Side) (ca cb : List Cell) (D E pa pb k n₀ t₁ t₂ t₃ : ℕ) (v : Inv a b ca cb D E pa pb) (even : length ca ≡ length cb)
-  (m : Message) (s : Schedule n₀ D E t₁ t₂ t₃) (g : Prog a b ca cb D E pa k n₀ t₁ t₂ t₃ (length ca) m) where
+    (m : Message) (s : Schedule n₀ D E t₁ t₂ t₃) (g : Prog a b ca cb D E pa k n₀ t₁ t₂ t₃ (length ca) m) where
   abbrev n : ℕ
   n = length ca
 
@@ -168,6 +168,7 @@ module _ (a b : Side) (ca cb : List Cell) (D E pa pb k n₀ t₁ t₂ t₃ : ℕ
       where
         eleven : {p : ℕ} → (p + (E + 1)) % 12 ≡ suc (length cb) % 12 → p < 12 → t₂ % 12 ≡ 0 → t₂ + 11 + E ≡ n → p ≡ 11
         eleven x y z w = omega (arith, even)
+
         go : (t : Bool) → (arrives E (sends b .sent) && accepts (harmed ha (getD (sends b .sent) E 0)) (sends a .end .collector)) ≡ t → k < cond t (frameAt cb′ E .entered) pa
         go true q = answers-by E (omega arith)
         go false q = now-or-before (k < pa) (t₂ + 11 + E) n (omega arith) (λ l. g .heard (omega arith))
@@ -188,13 +189,14 @@ module _ (a b : Side) (ca cb : List Cell) (D E pa pb k n₀ t₁ t₂ t₃ : ℕ
       entered = entered-by;
       answers = answers-by;
       in-step-a = subst (λ (m : ℕ). InStep (a′ .end .collector) cb′ E n₀ (suc m)) (sym even)
-        (arrival-step (sends b) (sends a) cb′ ca′ E (suc D) pb pa n₀ (exchanged both-sent)
-        (subst (λ (m : ℕ). InStep (sends a .end .collector) cb′ (suc E) (suc n₀) (suc m)) even step-a) ha clear-a);
+          (arrival-step (sends b) (sends a) cb′ ca′ E (suc D) pb pa n₀ (exchanged both-sent)
+          (subst (λ (m : ℕ). InStep (sends a .end .collector) cb′ (suc E) (suc n₀) (suc m)) even step-a) ha clear-a);
       heard = heard-by;
-      done = λ h. subst (λ (m : ℕ). k < m) (sym (near .acknowledged)) (done-by h)
-      }
+      done = λ h. subst (λ (m : ℕ). k < m) (sym (near .acknowledged)) (done-by h);
+    }
       where
         near : Logs a′ (sends a)
         near = takes-logs (arrives E (sends b .sent)) (harmed ha (getD (sends b .sent) E 0)) (sends a)
+
         far : Logs b′ (sends b)
         far = takes-logs (arrives D (sends a .sent)) (harmed hb (getD (sends a .sent) D 0)) (sends b)

@@ -37,11 +37,12 @@ getD-symbol (c ∷ cs) (suc i) h = getD-symbol cs i (omega arith)
 
 -- what a symbol of the cell y may have become on its way
 pub harm-took : (a b : Side) (ca cb : List Cell) (D E pa pb : ℕ) → Inv a b ca cb (suc D) E pa pb → D < length ca → (h : Harm)
-  → (harmed h (symbolIn (cellAt ca D)) ≤ 1023) × Took (harmed h (symbolIn (cellAt ca D))) (b .end .collector) (cellAt ca D)
-harm-took a b ca cb D E pa pb v h sound =
-    (le-trans (omega (arith, build-below (frameAt ca D .ten) (cellAt ca D .place))) (le-refl 1023),
-    sound-took (b .end .collector) (cellAt ca (suc D)) (cellAt ca D) (v .fit-b .shaped .collecting) (good (b .end) (v .fit-b .good) .count) (v .fit-b .sync)
-    (arrived (a .end) (a .sent) ca D (v .fit-a .stream) h))
+    → (harmed h (symbolIn (cellAt ca D)) ≤ 1023) × Took (harmed h (symbolIn (cellAt ca D))) (b .end .collector) (cellAt ca D)
+harm-took a b ca cb D E pa pb v h sound = (
+  le-trans (omega (arith, build-below (frameAt ca D .ten) (cellAt ca D .place))) (le-refl 1023),
+  sound-took (b .end .collector) (cellAt ca (suc D)) (cellAt ca D) (v .fit-b .shaped .collecting) (good (b .end) (v .fit-b .good) .count) (v .fit-b .sync)
+      (arrived (a .end) (a .sent) ca D (v .fit-a .stream) h),
+)
 harm-took a b ca cb D E pa pb v h (mark m p q) = (omega arith, marked-took m (b .end .collector) (cellAt ca D) (le-leb 512 m p))
 
 -- where nothing arrives, nothing changes
@@ -60,8 +61,8 @@ none-kept a b ca cb D E pa pb v h = record {
     answered = v .ab .answered;
     answers = v .ab .answers;
     frames = v .ab .frames;
-    acks = v .ab .acks
-    };
+    acks = v .ab .acks;
+  };
   ba = record {
     ha = v .ba .ha;
     holding = v .ba .holding;
@@ -73,9 +74,9 @@ none-kept a b ca cb D E pa pb v h = record {
     answered = v .ba .answered;
     answers = le-trans (v .ba .answers) (v .fit-a .stream .answers D);
     frames = v .ba .frames;
-    acks = v .ba .acks
-    }
-  }
+    acks = v .ba .acks;
+  };
+}
   where
     same : cellAt ca (suc D) ≡ cellAt ca D
     same = List·getD-eq-default ca none (omega arith) ∙ sym (List·getD-eq-default ca none h)
@@ -93,8 +94,10 @@ arrive-kept a b ca cb D E pa pb v h = go (arrives D (a .sent)) refl
   where
     is : D < length ca → harmed h (getD (a .sent) D 0) ≡ harmed h (symbolIn (cellAt ca D))
     is p = ap (λ (x : ℕ). harmed h x) (ap (λ (l : List ℕ). getD l D 0) (v .fit-a .stream .symbols) ∙ getD-symbol ca D p)
+
     heard : ℕ → ℕ
     heard s = cond (accepts s (b .end .collector)) (frameAt ca D .entered) pb
+
     there : (s : ℕ) → s ≤ 1023 → Took s (b .end .collector) (cellAt ca D) → Inv a (takes true s b) ca cb D E pa (heard s)
     there s h t =
         let e : takes true s b ≡ tookAs s b = takes-as s b (v .fit-b .good) h in
@@ -102,8 +105,9 @@ arrive-kept a b ca cb D E pa pb v h = go (arrives D (a .sent)) refl
         (took-kept a b ca cb D E pa pb v s t
         (subst (λ (x : Side). bad (x .end) ≡ false) e (after-good (Call.take s) (b .end) (v .fit-b .good)))
         (subst (λ (x : Side). Shaped (x .end)) e (after-shaped (Call.take s) (b .end) (v .fit-b .shaped))))
+
     go : (t : Bool) → arrives D (a .sent) ≡ t
-      → Inv a (takes t (harmed h (getD (a .sent) D 0)) b) ca cb D E pa (cond (t && accepts (harmed h (getD (a .sent) D 0)) (b .end .collector)) (frameAt ca D .entered) pb)
+        → Inv a (takes t (harmed h (getD (a .sent) D 0)) b) ca cb D E pa (cond (t && accepts (harmed h (getD (a .sent) D 0)) (b .end .collector)) (frameAt ca D .entered) pb)
     go true t =
         let p : D < length ca = subst (λ (n : ℕ). D < n) (sent-length a ca (v .fit-a .stream)) (ltb-true D _ t) in
         let k = harm-took a b ca cb D E pa pb v p h in
@@ -120,7 +124,7 @@ abbrev pub cellOf : Side → List Cell → Cell
 cellOf s cs = cellSent (eqb (s .end .sender .position) 0) s cs
 
 pub slot-kept : (w : World) (ca cb : List Cell) (D E pa pb : ℕ) (ha hb : Harm) → Inv (w .a) (w .b) ca cb D E pa pb
-  → Inv (slotStep D E ha hb w .a) (slotStep D E ha hb w .b) (cellOf (w .a) ca ∷ ca) (cellOf (w .b) cb ∷ cb) D E
+    → Inv (slotStep D E ha hb w .a) (slotStep D E ha hb w .b) (cellOf (w .a) ca ∷ ca) (cellOf (w .b) cb ∷ cb) D E
     (hears E ha (sends (w .b)) (sends (w .a)) (cellOf (w .b) cb ∷ cb) pa) (hears D hb (sends (w .a)) (sends (w .b)) (cellOf (w .a) ca ∷ ca) pb)
 slot-kept w ca cb D E pa pb ha hb v =
     let v₁ = sent-kept (w .a) (w .b) ca cb D E pa pb v (eqb (w .a .end .sender .position) 0) refl in

@@ -41,8 +41,8 @@ tookAs s b = record {
   loaded = b .loaded;
   acknowledged = b .acknowledged;
   entered = cond (entersNow s (b .end)) (b .entered ++ (messageIn (taken s (b .end)) ∷ [])) (b .entered);
-  taken = b .taken
-  }
+  taken = b .taken;
+}
 
 pub takes-as : (s : ℕ) (b : Side) → bad (b .end) ≡ false → s ≤ 1023 → takes true s b ≡ tookAs s b
 unfolding takes
@@ -54,11 +54,11 @@ arrived e sent cs d st h = record {
   frame = st .same d;
   place = λ p. later p (st .places d h) (st .within d) (st .within (suc d)) (λ k. st .places (suc d) k);
   within = st .within d;
-  ten = st .ten d
-  }
+  ten = st .ten d;
+}
   where
     later : 0 < cellAt cs d .place → (cellAt cs d .place + (d + 1)) % 12 ≡ length cs % 12 → cellAt cs d .place < 12 → cellAt cs (suc d) .place < 12
-      → (suc d < length cs → (cellAt cs (suc d) .place + (suc d + 1)) % 12 ≡ length cs % 12) → cellAt cs (suc d) .place + 1 ≡ cellAt cs d .place
+        → (suc d < length cs → (cellAt cs (suc d) .place + (suc d + 1)) % 12 ≡ length cs % 12) → cellAt cs (suc d) .place + 1 ≡ cellAt cs d .place
     later p q w w′ f = go (ltb (suc d) (length cs)) refl
       where
         go : (b : Bool) → ltb (suc d) (length cs) ≡ b → cellAt cs (suc d) .place + 1 ≡ cellAt cs d .place
@@ -78,16 +78,16 @@ tookBy t n s b = record {
     outbox = b .end .outbox;
     collector = collected s (b .end .collector);
     heard = pickHeard t (saidBy (placed s (b .end .collector))) (b .end .heard);
-    inbox = filled n (placed s (b .end .collector)) (settled (b .end))
-    };
+    inbox = filled n (placed s (b .end .collector)) (settled (b .end));
+  };
   sent = b .sent;
   host = b .host;
   accepted = b .accepted;
   loaded = b .loaded;
   acknowledged = b .acknowledged;
   entered = cond n (b .entered ++ (messageAt (filled n (placed s (b .end .collector)) (settled (b .end))) ∷ [])) (b .entered);
-  taken = b .taken
-  }
+  taken = b .taken;
+}
 
 module _ (a b : Side) (ca cb : List Cell) (D E pa pb : ℕ) (v : Inv a b ca cb (suc D) E pa pb) (s : ℕ) (took : Took s (b .end .collector) (cellAt ca D)) where
   abbrev l : List ℕ
@@ -115,8 +115,8 @@ module _ (a b : Side) (ca cb : List Cell) (D E pa pb : ℕ) (v : Inv a b ca cb (
     places = st .places;
     same = st .same;
     ranks = st .ranks;
-    answers = st .answers
-    }
+    answers = st .answers;
+  }
 
   holding : (t n : Bool) → Holding (tookBy t n s b .end) (b .accepted) (b .loaded) (b .acknowledged)
   holding t n = let h = v .ba .holding in record { sending = h .sending; valid = h .valid; pending = h .pending; sent = h .sent }
@@ -133,8 +133,8 @@ module _ (a b : Side) (ca cb : List Cell) (D E pa pb : ℕ) (v : Inv a b ca cb (
     answered = v .ab .answered;
     answers = v .ab .answers;
     frames = v .ab .frames;
-    acks = v .ab .acks
-    }
+    acks = v .ab .acks;
+  }
 
   quiet-ba : Way (tookBy false false s b) a cb ca E D pb
   quiet-ba = record {
@@ -148,8 +148,8 @@ module _ (a b : Side) (ca cb : List Cell) (D E pa pb : ℕ) (v : Inv a b ca cb (
     answered = v .ba .answered;
     answers = he≤;
     frames = v .ba .frames;
-    acks = v .ba .acks
-    }
+    acks = v .ba .acks;
+  }
 
   module _ (whole : l ≡ build (f .ten)) (n : Bool) (r : enters true (saidBy l) (settled (b .end)) ≡ n) where
     carries : Carries (a .accepted) l (f .acked)
@@ -193,8 +193,8 @@ module _ (a b : Side) (ca cb : List Cell) (D E pa pb : ℕ) (v : Inv a b ca cb (
       answered = subst (λ (k : ℕ). frameAt cb 0 .entered ≤ k) (sym longer) (le-trans (v .ab .answered) (le-add-right _ (num n)));
       answers = v .ab .answers;
       frames = v .ab .frames;
-      acks = v .ab .acks
-      }
+      acks = v .ab .acks;
+    }
 
     loud-ba : Way (tookBy true n s b) a cb ca E D (f .entered)
     loud-ba = record {
@@ -208,8 +208,8 @@ module _ (a b : Side) (ca cb : List Cell) (D E pa pb : ℕ) (v : Inv a b ca cb (
       answered = v .ba .answered;
       answers = le-refl _;
       frames = v .ba .frames;
-      acks = v .ba .acks
-      }
+      acks = v .ba .acks;
+    }
 
   -- a frame that carries message k leaves it entered
   pub took-entered : (k : ℕ) → accepts s (b .end .collector) ≡ true → k ≤ length (b .taken) → 2 * k + 1 ≤ rank f → k < length (tookAs s b .entered)
@@ -232,16 +232,17 @@ module _ (a b : Side) (ca cb : List Cell) (D E pa pb : ℕ) (v : Inv a b ca cb (
         good = subst (λ (x : Side). bad (x .end) ≡ false) is fine;
         shaped = subst (λ (x : Side). Shaped (x .end)) is shaped;
         stream = stream t n;
-        sync = took .sync
-        };
+        sync = took .sync;
+      };
       ab = ab t n p q;
-      ba = ba t n p q
-      }
+      ba = ba t n p q;
+    }
       where
         ab : (t n : Bool) → accepts s (b .end .collector) ≡ t → enters t (saidBy l) (settled (b .end)) ≡ n → Way a (tookBy t n s b) ca cb D E pa
         ab true n p q = loud-ab (took .whole p) n q
         ab false true p q = absurd (false≢true q)
         ab false false p q = quiet-ab
+
         ba : (t n : Bool) → accepts s (b .end .collector) ≡ t → enters t (saidBy l) (settled (b .end)) ≡ n → Way (tookBy t n s b) a cb ca E D (cond t (f .entered) pb)
         ba true n p q = loud-ba (took .whole p) n q
         ba false true p q = absurd (false≢true q)

@@ -31,8 +31,8 @@ outOf e = record {
   pending = e .outbox .pending;
   ready = e .sender .ready;
   toggle = e .sender .toggle;
-  register = e .outbox .toggle
-  }
+  register = e .outbox .toggle;
+}
 
 abbrev pub inOf : Inbox → In
 inOf i = record { expected = i .expected; acknowledge = i .acknowledge; full = i .full; toggle = i .toggle }

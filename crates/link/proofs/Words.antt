@@ -46,7 +46,7 @@ odd-is false n e = ne-eqb (n % 2) 1 (λ z. omega arith)
 
 -- the four bits and the number of a word in whose symbol s they stand
 module _ (v t k g n s : ℕ) (hv : v ≤ 1) (ht : t ≤ 1) (hk : k ≤ 1) (hg : g ≤ 1) (hn : n ≤ 15)
-  (e : s % 256 ≡ (128 * v + 64 * t + 32 * k + 16 * g + n) % 256) where
+    (e : s % 256 ≡ (128 * v + 64 * t + 32 * k + 16 * g + n) % 256) where
   at-valid : s / 128 % 2 ≡ v
   at-valid = omega arith
 
@@ -78,11 +78,12 @@ word-says l v t k g n h hn e = record {
   toggle = odd-is t _ (at-toggle (num v) (num t) (num k) (num g) n s (num-le v) (num-le t) (num-le k) (num-le g) hn f);
   ack = odd-is k _ (at-ack (num v) (num t) (num k) (num g) n s (num-le v) (num-le t) (num-le k) (num-le g) hn f);
   togack = odd-is g _ (at-togack (num v) (num t) (num k) (num g) n s (num-le v) (num-le t) (num-le k) (num-le g) hn f);
-  number = at-number (num v) (num t) (num k) (num g) n s (num-le v) (num-le t) (num-le k) (num-le g) hn f
-  }
+  number = at-number (num v) (num t) (num k) (num g) n s (num-le v) (num-le t) (num-le k) (num-le g) hn f;
+}
   where
     s : ℕ
     s = getD (build l) 1 0
+
     f : s % 256 ≡ (128 * num v + 64 * num t + 32 * num k + 16 * num g + n) % 256
     f = build-data l 1 h (omega arith) ∙ ap (λ (x : ℕ). x % 256) (e ∙ word-num v t k g n)
 
@@ -92,10 +93,13 @@ bytes-built x y l h b = ext-getD 0 _ _ lengths at
   where
     ten : List ℕ
     ten = x ∷ y ∷ l
+
     ten-length : length ten ≡ 10
     ten-length = omega arith
+
     lengths : length (map dataOf (take 8 (drop 2 (build ten)))) ≡ length l
     lengths = simp (length-map, length-take, length-drop, build-length ten ten-length) (omega arith)
+
     at : (i : ℕ) → i < length (map dataOf (take 8 (drop 2 (build ten)))) → getD (map dataOf (take 8 (drop 2 (build ten)))) i 0 ≡ getD l i 0
     at i q =
         let below : i < 8 = omega (arith, lengths) in

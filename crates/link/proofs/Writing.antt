@@ -41,8 +41,8 @@ writtenBy t e r v = record {
   outbox = pickOutbox t (writeControl (e .outbox) v) (writeBytes (e .outbox) (r - 2309) v);
   collector = e .collector;
   heard = e .heard;
-  inbox = e .inbox
-  }
+  inbox = e .inbox;
+}
 
 module _ (a b : Side) (ca cb : List Cell) (D E pa pb : ℕ) (i : Inv a b ca cb D E pa pb) (r v : ℕ) (sixteen : v < 65536) where
   -- refused: nothing is accepted, the end is as it was
@@ -51,6 +51,7 @@ module _ (a b : Side) (ca cb : List Cell) (D E pa pb : ℕ) (i : Inv a b ca cb D
     where
       accepts-not : acceptsNow r v (a .end) ≡ false
       accepts-not = rw (q, n, and-false, and-false)
+
       is : hosted (write r v sixteen) a ≡ a
       is = λ j. hostedAs a (q j .end) (a .host) (cond-false (a .accepted ++ (messageOut (writeOf (a .end) r v .end) ∷ [])) (a .accepted) accepts-not j) (a .taken)
 
@@ -66,8 +67,8 @@ module _ (a b : Side) (ca cb : List Cell) (D E pa pb : ℕ) (i : Inv a b ca cb D
     accepted = old .accepted ∙ ap (λ (x : Bool). a .loaded + num x) (sym z);
     loaded = old .loaded;
     toggle = old .toggle;
-    register = old .register
-    }
+    register = old .register;
+  }
 
   pend-is : (p k : Bool) → a .end .outbox .pending ≡ p → odd (v / 32768) ≡ k → pend ≡ cond p true k
   pend-is p k f g = rw (f, g)
@@ -82,8 +83,8 @@ module _ (a b : Side) (ca cb : List Cell) (D E pa pb : ℕ) (i : Inv a b ca cb D
       sending = i .ab .holding .sending;
       valid = i .ab .holding .valid;
       pending = λ z. absurd (false≢true (sym p ∙ z));
-      sent = i .ab .holding .sent
-      })
+      sent = i .ab .holding .sent;
+    })
 
     -- 3.2308, one pending: only PingTx changes
     ping-kept : eqb r 2308 ≡ true → a .end .outbox .pending ≡ true → Inv (hostedAs a (writtenBy true (a .end) r v) (a .host) (a .accepted) (a .taken)) b ca cb D E pa pb
@@ -91,8 +92,8 @@ module _ (a b : Side) (ca cb : List Cell) (D E pa pb : ℕ) (i : Inv a b ca cb D
       sending = sending-same (cond-true true _ p ∙ sym p);
       valid = i .ab .holding .valid;
       pending = λ z. i .ab .holding .pending p ∙ ap (λ (n : ℕ). record { number = n; bytes = a .end .outbox .bytes }) (sym (cond-true (a .end .outbox .number) (v / 256 % 16) p));
-      sent = i .ab .holding .sent
-      })
+      sent = i .ab .holding .sent;
+    })
 
     -- nothing pending and bit 15 clear
     clear-kept : eqb r 2308 ≡ true → a .end .outbox .pending ≡ false → odd (v / 32768) ≡ false → Inv (hostedAs a (writtenBy true (a .end) r v) (a .host) (a .accepted) (a .taken)) b ca cb D E pa pb
@@ -100,8 +101,8 @@ module _ (a b : Side) (ca cb : List Cell) (D E pa pb : ℕ) (i : Inv a b ca cb D
       sending = sending-same (pend-is false false p k ∙ sym p);
       valid = i .ab .holding .valid;
       pending = λ z. absurd (false≢true (sym (pend-is false false p k) ∙ z));
-      sent = i .ab .holding .sent
-      })
+      sent = i .ab .holding .sent;
+    })
 
     accept-kept : eqb r 2308 ≡ true → a .end .outbox .pending ≡ false → odd (v / 32768) ≡ true → Inv (hostedAs a (writtenBy true (a .end) r v) (a .host) (a .accepted ++ (messageOut (writtenBy true (a .end) r v) ∷ [])) (a .taken)) b ca cb D E pa pb
     accept-kept q p k = hosted-as a b ca cb D E pa pb i (writtenBy true (a .end) r v) (a .host) (a .accepted ++ (m ∷ [])) (a .taken) (unseen true q) hold (i .ba .filling)
@@ -109,23 +110,25 @@ module _ (a b : Side) (ca cb : List Cell) (D E pa pb : ℕ) (i : Inv a b ca cb D
       where
         m : Message
         m = messageOut (writtenBy true (a .end) r v)
+
         all : length (a .accepted) ≡ a .loaded
         all = old .accepted ∙ ap (λ (x : Bool). a .loaded + num x) p ∙ add-zero (a .loaded)
+
         hold : Holding (writtenBy true (a .end) r v) (a .accepted ++ (m ∷ [])) (a .loaded) (a .acknowledged)
         hold = record {
           sending = record {
             accepted = length-more (a .accepted) m ∙ ap suc all ∙ sym (add-one (a .loaded)) ∙ ap (λ (x : Bool). a .loaded + num x) (sym (pend-is false true p k));
             loaded = old .loaded;
             toggle = old .toggle;
-            register = old .register
-            };
+            register = old .register;
+          };
           valid = i .ab .holding .valid;
           pending = λ z. ap (λ (n : ℕ). getD (a .accepted ++ (m ∷ [])) n nothing) (sym all) ∙ getD-append-seam (a .accepted) m [] nothing;
-          sent = λ z. List·getD-append (a .accepted) (m ∷ []) nothing (a .acknowledged) (sent-below _ _ _ (outOf (a .end)) old z) ∙ i .ab .holding .sent z
-          }
+          sent = λ z. List·getD-append (a .accepted) (m ∷ []) nothing (a .acknowledged) (sent-below _ _ _ (outOf (a .end)) old z) ∙ i .ab .holding .sent z;
+        }
 
     by-tests : (t k p : Bool) → eqb r 2308 ≡ t → odd (v / 32768) ≡ k → a .end .outbox .pending ≡ p → (p && (not t || k)) ≡ false
-      → Inv (hostedAs a (writtenBy t (a .end) r v) (a .host) (cond (t && k) (a .accepted ++ (messageOut (writtenBy t (a .end) r v) ∷ [])) (a .accepted)) (a .taken)) b ca cb D E pa pb
+        → Inv (hostedAs a (writtenBy t (a .end) r v) (a .host) (cond (t && k) (a .accepted ++ (messageOut (writtenBy t (a .end) r v) ∷ [])) (a .accepted)) (a .taken)) b ca cb D E pa pb
     by-tests true true true qt qk qp n = absurd (true≢false n)
     by-tests true true false qt qk qp n = accept-kept qt qp qk
     by-tests true false true qt qk qp n = ping-kept qt qp
@@ -139,6 +142,7 @@ module _ (a b : Side) (ca cb : List Cell) (D E pa pb : ℕ) (i : Inv a b ca cb D
     where
       of : Next → Side
       of x = hostedAs a (x .end) (a .host) (cond (eqb r 2308 && (odd (v / 32768) && eqb (numberOf (x .answer)) 0)) (a .accepted ++ (messageOut (x .end) ∷ [])) (a .accepted)) (a .taken)
+
       unseen : (t : Bool) → eqb r 2308 ≡ t → Unseen (a .end) (writtenBy t (a .end) r v)
       unseen t f = record {
         good = subst (λ (t : Bool). bad (writtenBy t (a .end) r v) ≡ false) f (subst (λ (x : Next). bad (x .end) ≡ false) q (after-good (Call.write r v sixteen) (a .end) (i .fit-a .good)));
@@ -146,8 +150,8 @@ module _ (a b : Side) (ca cb : List Cell) (D E pa pb : ℕ) (i : Inv a b ca cb D
         position = refl;
         symbols = refl;
         collector = refl;
-        heard = refl
-        }
+        heard = refl;
+      }
 
   pub write-kept : Inv (hosted (write r v sixteen) a) b ca cb D E pa pb
   unfolding writeOf
@@ -165,6 +169,7 @@ health-kept a b ca cb D E pa pb i h = go (ltb 3 h) refl
   where
     of : End → Side
     of x = hostedAs a x (a .host) (a .accepted) (a .taken)
+
     go : (t : Bool) → ltb 3 h ≡ t → Inv (hosted (health h) a) b ca cb D E pa pb
     go true f =
         let q : healthOf (a .end) h .end ≡ a .end = rw (i .fit-a .good, f) in
@@ -173,11 +178,11 @@ health-kept a b ca cb D E pa pb i h = go (ltb 3 h) refl
         let q : healthOf (a .end) h .end ≡ withHealth (a .end) h = rw (i .fit-a .good, f) in
         subst (λ (x : End). Inv (of x) b ca cb D E pa pb) (sym q)
         (hosted-as a b ca cb D E pa pb i (withHealth (a .end) h) (a .host) (a .accepted) (a .taken) (record {
-        good = subst (λ (x : End). bad x ≡ false) q (after-good (Call.health h) (a .end) (i .fit-a .good));
-        shaped = subst (λ (x : End). Shaped x) q (after-shaped (Call.health h) (a .end) (i .fit-a .shaped));
-        position = refl;
-        symbols = refl;
-        collector = refl;
-        heard = refl
+          good = subst (λ (x : End). bad x ≡ false) q (after-good (Call.health h) (a .end) (i .fit-a .good));
+          shaped = subst (λ (x : End). Shaped x) q (after-shaped (Call.health h) (a .end) (i .fit-a .shaped));
+          position = refl;
+          symbols = refl;
+          collector = refl;
+          heard = refl;
         }) (record { sending = i .ab .holding .sending; valid = i .ab .holding .valid; pending = i .ab .holding .pending; sent = i .ab .holding .sent })
         (i .ba .filling) (i .ab .filling) (i .ab .frames))

@@ -105,12 +105,15 @@ atNear aToB c = atA c
 atNear bToA c = atB c
 
 -- Demand 3, second part: a write to 3.2308 is accepted into an idle direction, w being the world before it and x after it; then
--- after every continuation fs with so many slots, in which nothing that arrives is marked, the message is through
-abbrev pub Delivered : Type 0
-Delivered =
+-- after every continuation fs with enough slots, in which nothing that arrives is marked, the message is through
+abbrev pub DeliveredIn : (ℕ → ℕ → ℕ) → Type 0
+DeliveredIn enough =
     (d : Direction) (D E : ℕ) (es : List Event) → ruled D E es start ≡ true
     → (w : World) → w ≡ run D E es start → Idle (near d w) (far d w)
     → (v : ℕ) (h : v < 65536) → acceptsNow 2308 v (near d w .end) ≡ true
     → (x : World) → x ≡ step D E (atNear d (write 2308 v h)) w
-    → (fs : List Event) → ruled D E fs x ≡ true → clear D E fs x ≡ true → bound D E ≤ slots fs
+    → (fs : List Event) → ruled D E fs x ≡ true → clear D E fs x ≡ true → enough D E ≤ slots fs
     → Through (length (near d w .accepted)) (messageOut (near d x .end)) (near d (run D E fs x)) (far d (run D E fs x))
+
+abbrev pub Delivered : Type 0
+Delivered = DeliveredIn bound

@@ -1,2 +1,4 @@
 pub mod Link
 pub mod Demand
+pub mod Tight
+pub mod Rule

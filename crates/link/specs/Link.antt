@@ -55,8 +55,8 @@ resetSide = record {
   loaded = 0;
   acknowledged = 0;
   entered = [];
-  taken = []
-  }
+  taken = [];
+}
 
 abbrev pub start : World
 start = record { a = resetSide; b = resetSide }
@@ -90,15 +90,15 @@ abbrev pub advance : ℕ → ℕ → Host → Host
 advance r v h = record {
   stage = cond (eqb r 2313) (cond (odd (v / 32768)) 1 0) (cond (eqb r 2317) 0 (h .stage + 1));
   number = cond (eqb r 2313) (v / 256 % 16) (h .number);
-  bytes = cond (eqb r 2313) [] (h .bytes ++ (v % 256 ∷ v / 256 ∷ []))
-  }
+  bytes = cond (eqb r 2313) [] (h .bytes ++ (v % 256 ∷ v / 256 ∷ []));
+}
 
 abbrev pub pickHost : Bool → Host → Host → Host
 pickHost b x y = record {
   stage = cond b (x .stage) (y .stage);
   number = cond b (x .number) (y .number);
-  bytes = cond b (x .bytes) (y .bytes)
-  }
+  bytes = cond b (x .bytes) (y .bytes);
+}
 
 -- the message that a host has read, with the last register's value v
 abbrev pub messageRead : Host → ℕ → Message
@@ -142,8 +142,8 @@ hosted c s = record {
   loaded = s .loaded;
   acknowledged = s .acknowledged;
   entered = s .entered;
-  taken = takenAfter c s
-  }
+  taken = takenAfter c s;
+}
 
 -- Slots
 
@@ -171,8 +171,8 @@ sends s = record {
   loaded = cond (loadsNow (s .end)) (s .loaded + 1) (s .loaded);
   acknowledged = cond (acksNow (s .end)) (s .acknowledged + 1) (s .acknowledged);
   entered = s .entered;
-  taken = s .taken
-  }
+  taken = s .taken;
+}
 
 -- the message in the receive register
 abbrev pub messageIn : End → Message
@@ -192,8 +192,8 @@ takes true s x = record {
   loaded = x .loaded;
   acknowledged = x .acknowledged;
   entered = cond (entersNow s (x .end)) (x .entered ++ (messageIn (takeOf (x .end) s .end) ∷ [])) (x .entered);
-  taken = x .taken
-  }
+  taken = x .taken;
+}
 takes false s x = x
 
 -- what was sent d slots ago arrives, and nothing where nothing was

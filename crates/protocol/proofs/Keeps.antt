@@ -113,7 +113,7 @@ module _ (ent tk ha a : ℕ) (valid toggle : Bool) (upto : a ≤ ent) where
   enter-receiving v t i h n r = go v t (i .full) (i .expected) (i .acknowledge) (i .toggle) h n r
     where
       go : (v t f x k g : Bool) → num t ≡ a % 2 → 2 * ha + num valid ≤ 2 * a + num v → Receiving ent tk ha valid toggle (inOf x k f g)
-        → Receiving (ent + num (enters v t (inOf x k f g))) tk a v t (enter (enters v t (inOf x k f g)) t (inOf x k f g))
+          → Receiving (ent + num (enters v t (inOf x k f g))) tk a v t (enter (enters v t (inOf x k f g)) t (inOf x k f g))
       go true true false true k g h n r = omega (arith, num-le k)
       go true true false false k g h n r = omega (arith, num-le k)
       go true false false true k g h n r = omega (arith, num-le k)
@@ -127,7 +127,7 @@ module _ (ent tk ha a : ℕ) (valid toggle : Bool) (upto : a ≤ ent) where
   enters-next v t i h n r e = go v t (i .full) (i .expected) (i .acknowledge) (i .toggle) h n r e
     where
       go : (v t f x k g : Bool) → num t ≡ a % 2 → 2 * ha + num valid ≤ 2 * a + num v → Receiving ent tk ha valid toggle (inOf x k f g)
-        → enters v t (inOf x k f g) ≡ true → (a ≡ ent) × (tk ≡ ent) × (v ≡ true)
+          → enters v t (inOf x k f g) ≡ true → (a ≡ ent) × (tk ≡ ent) × (v ≡ true)
       go true true false true true g h n r e = (omega arith, omega arith, refl)
       go true true false true false g h n r e = (omega arith, omega arith, refl)
       go true true false false k g h n r e = absurd (false≢true e)

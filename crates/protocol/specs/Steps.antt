@@ -7,8 +7,9 @@
 --   releases, settle   settling's test and settling
 --   enters, enter      whether a frame's message enters the receive register, and its entering
 --   emptied            the host has read 3.2317
---   placed, counted    the collection's symbols and count after one more symbol, of which it is known whether it is
---                      marked (m) and even (v)
+--   placed, counted    the collection's symbols and count after one more symbol s, marked where m, even where v, the count
+--                      having been n
+--   completes          that symbol is the twelfth
 -- Assumes nothing.
 use Prim.Native.Nat.{ℕ, _+_}
 use mathlib.Core.Bool.{Bool, true, false, not, cond, _&&_, _||_, Bool·beq}
@@ -33,8 +34,8 @@ stepOne a o = record {
   pending = o .pending;
   ready = cond a true (o .ready);
   toggle = cond a (o .register) (o .toggle);
-  register = o .register
-  }
+  register = o .register;
+}
 
 abbrev pub loads : Out → Bool
 loads o = o .pending && o .ready
@@ -44,8 +45,8 @@ stepThree l o = record {
   pending = cond l false (o .pending);
   ready = cond l false (o .ready);
   toggle = o .toggle;
-  register = cond l (not (o .register)) (o .register)
-  }
+  register = cond l (not (o .register)) (o .register);
+}
 
 pub record In : Type 0 where
   pub expected : Bool
@@ -61,8 +62,8 @@ settle r toggle i = record {
   expected = cond r toggle (i .expected);
   acknowledge = cond r false (i .acknowledge);
   full = i .full;
-  toggle = i .toggle
-  }
+  toggle = i .toggle;
+}
 
 abbrev pub enters : Bool → Bool → In → Bool
 enters valid toggle i = not (i .full) && (valid && Bool·beq toggle (i .expected))
@@ -72,8 +73,8 @@ enter b toggle i = record {
   expected = cond b (not toggle) (i .expected);
   acknowledge = cond b true (i .acknowledge);
   full = cond b true (i .full);
-  toggle = cond b toggle (i .toggle)
-  }
+  toggle = cond b toggle (i .toggle);
+}
 
 abbrev pub emptied : In → In
 emptied i = record { expected = i .expected; acknowledge = i .acknowledge; full = false; toggle = i .toggle }
@@ -83,3 +84,6 @@ placed m v s l n = cond m l (cond v (set l 0 s) (cond (eqb n 0) l (set l n s)))
 
 abbrev pub counted : Bool → Bool → ℕ → ℕ
 counted m v n = cond m 0 (cond v 1 (cond (eqb n 0) 0 (cond (eqb n 11) 0 (n + 1))))
+
+abbrev pub completes : Bool → Bool → ℕ → Bool
+completes m v n = not m && (not v && eqb n 11)

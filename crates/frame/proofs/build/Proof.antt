@@ -27,7 +27,12 @@ array-write-symbols : tie.Need-array-write-symbols Inv-loop μ-loop
 array-write-symbols c = search needs
 
 loop-holds : tie.Need-loop-holds Inv-loop μ-loop
-loop-holds c = (search needs, search needs, build-start (c .before .before .args .t1) (c .even-symbol .result) (search needs) (c .even-symbol .ensures))
+loop-holds c = (
+  search needs,
+  search needs,
+  build-start (c .before .before .args .t1) (c .even-symbol .result) (search needs)
+      (c .even-symbol .ensures),
+)
 
 array-read-odd-symbol : tie.Need-array-read-odd-symbol Inv-loop μ-loop
 array-read-odd-symbol c = search needs
@@ -52,7 +57,8 @@ loop-again c =
     let at = c .before .before .loop in (
       search needs,
       length-set (at .symbols) (at .i) (c .odd-symbol .result) ∙ at .inv .1,
-      build-more _ (at .symbols) (at .i) (c .odd-symbol .result) (search needs) (at .inv .1) (c .before .loop-test .taken) (c .odd-symbol .ensures) (at .inv .2),
+      build-more _ (at .symbols) (at .i) (c .odd-symbol .result) (search needs) (at .inv .1)
+          (c .before .loop-test .taken) (c .odd-symbol .ensures) (at .inv .2),
     )
 
 cast-odd-symbol : tie.Need-cast-odd-symbol Inv-loop μ-loop
@@ -76,8 +82,10 @@ array-write-symbols-4 c = search needs
 returns : tie.Need-returns Inv-loop μ-loop
 returns c =
     let at = c .before .before .before .loop in
-    build-last _ (at .symbols) (at .i) (c .before .before .before .before .before .crc .result) (c .before .odd-symbol2 .result) (c .odd-symbol3 .result)
-    (omega arith) (search needs) (at .inv .1) (c .before .before .before .before .before .crc .ensures) (c .before .odd-symbol2 .ensures) (c .odd-symbol3 .ensures)
+    build-last _ (at .symbols) (at .i) (c .before .before .before .before .before .crc .result)
+    (c .before .odd-symbol2 .result) (c .odd-symbol3 .result)
+    (omega arith) (search needs) (at .inv .1) (c .before .before .before .before .before .crc .ensures)
+    (c .before .odd-symbol2 .ensures) (c .odd-symbol3 .ensures)
     (at .inv .2)
 
 pub build-spec : {M : Type 1} → statement M

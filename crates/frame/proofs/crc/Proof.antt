@@ -1,8 +1,9 @@
--- `frame::crc` meets its contract: the bytes still to come, run from the register as it is, give the CRC. Assumes nothing.
+-- `frame::crc` meets its contract: the bytes still to come, run from the register as it is, give the CRC. Assumes
+-- nothing.
 use Prim.Native.Nat.{_-_, _≤_, _<_}
 use mathlib.Core.Path.{_≡_, _∙_}
 use borrow.Author.Needs.{needs}
-use lib.ListN.{length, drop}
+use lib.ListN.{drop}
 use Rattle.frame.specs.Bits.{bits}
 use Rattle.frame.specs.Crc.{run, crc}
 use Rattle.frame.specs.Frame.{generator, stream}
@@ -12,7 +13,8 @@ use Rattle.frame.proofs.crc.Tie as tie
 
 abbrev Inv-loop : tie.InvT-loop
 Inv-loop bytes register₀ i₀ register i =
-    (i ≤ 10) × (register < 65536) × (run generator (bits 16 register) (stream (drop i bytes)) ≡ crc generator (stream bytes))
+    (i ≤ 10) × (register < 65536) × (run generator (bits 16 register) (stream (drop i bytes)) ≡ crc generator
+    (stream bytes))
 
 abbrev μ-loop : tie.MeasureT-loop
 μ-loop bytes register₀ i₀ register i = 10 - i
@@ -38,14 +40,16 @@ loop-again c =
     let bytes = c .before .before .before in (
       search needs,
       c .fed .ok,
-      crc-more (bytes .args .t1) (at .i) (at .register) (c .fed .result) (rw (bytes .good .0 .1 .0 .1) (c .before .loop-test .taken)) (c .fed .ensures)
+      crc-more (bytes .args .t1) (at .i) (at .register) (c .fed .result)
+          (rw (bytes .good .0 .1 .0 .1) (c .before .loop-test .taken)) (c .fed .ensures)
           ∙ at .inv .2,
     )
 
 returns : tie.Need-returns Inv-loop μ-loop
 returns c =
     let at = c .before .loop in
-    crc-end (c .before .before .args .t1) (at .i) (at .register) (rw (c .before .before .good .0 .1 .0 .1) (c .loop-test .left)) (at .inv .1)
+    crc-end (c .before .before .args .t1) (at .i) (at .register)
+    (rw (c .before .before .good .0 .1 .0 .1) (c .loop-test .left)) (at .inv .1)
     (at .inv .2)
 
 pub crc-spec : {M : Type 1} → statement M

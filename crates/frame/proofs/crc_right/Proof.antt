@@ -40,7 +40,8 @@ loop-again c =
     let at = c .before .before .loop in (
       search needs,
       length-set (at .bytes) (at .i) (c .data-of .result) ∙ at .inv .1,
-      data-more _ (at .bytes) (at .i) (c .data-of .result) (search needs) (at .inv .1) (c .before .loop-test .taken) (c .data-of .ensures) (at .inv .2),
+      data-more _ (at .bytes) (at .i) (c .data-of .result) (search needs) (at .inv .1) (c .before .loop-test .taken)
+          (c .data-of .ensures) (at .inv .2),
     )
 
 array-read-low : tie.Need-array-read-low Inv-loop μ-loop

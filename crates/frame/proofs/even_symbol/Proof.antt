@@ -15,11 +15,14 @@ add-result c = search needs
 
 returns : tie.Need-returns
 returns c =
-    evenSymbol-number (c .before .before .args .byte) true (c .before .before .fits .byte .fits) (sym (c .if1 .taken) ∙ c .before .parity .ensures)
+    evenSymbol-number (c .before .before .args .byte) true (c .before .before .fits .byte .fits)
+    (sym (c .if1 .taken) ∙ c .before .parity .ensures)
 
 returns-2 : tie.Need-returns-2
 returns-2 c =
-    sym (add-zero (c .before .before .args .byte)) ∙ evenSymbol-number (c .before .before .args .byte) false (c .before .before .fits .byte .fits) (sym (c .if1 .left) ∙ c .before .parity .ensures)
+    sym (add-zero (c .before .before .args .byte))
+    ∙ evenSymbol-number (c .before .before .args .byte) false (c .before .before .fits .byte .fits)
+    (sym (c .if1 .left) ∙ c .before .parity .ensures)
 
 pub even-symbol-spec : {M : Type 1} → statement M
 even-symbol-spec = tie.close (tie.spec parity-requires add-result returns returns-2)

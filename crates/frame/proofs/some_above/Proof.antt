@@ -1,5 +1,5 @@
--- `frame::some_above` meets its contract: what is left of the list has a number above the largest symbol where the list has.
--- Assumes nothing.
+-- `frame::some_above` meets its contract: what is left of the list has a number above the largest symbol where the
+-- list has. Assumes nothing.
 use borrow.Author.Needs.{needs}
 use Prim.Native.Nat.{_-_, _≤_}
 use mathlib.Core.Path.{_≡_, refl, sym, _∙_}
@@ -28,7 +28,9 @@ shared-slice-read-if1 c = search needs
 returns : tie.Need-returns Inv-loop μ-loop
 returns c =
     let at = c .before .before .before .loop in
-    sym (sym (at .inv .1) ∙ above-here (now (c .before .before .before .before .args .list)) (at .i) (c .before .before .loop-test .taken) (c .if1 .taken))
+    sym (sym (at .inv .1)
+    ∙ above-here (now (c .before .before .before .before .args .list)) (at .i) (c .before .before .loop-test .taken)
+    (c .if1 .taken))
 
 add-i : tie.Need-add-i Inv-loop μ-loop
 add-i c = search needs
@@ -40,7 +42,8 @@ loop-again : tie.Need-loop-again Inv-loop μ-loop
 loop-again c =
     let at = c .before .before .before .loop in (
       search needs,
-      above-next (now (c .before .before .before .before .args .list)) (at .i) (c .before .before .loop-test .taken) (c .if1 .left) ∙ at .inv .1,
+      above-next (now (c .before .before .before .before .args .list)) (at .i) (c .before .before .loop-test .taken)
+          (c .if1 .left) ∙ at .inv .1,
     )
 
 returns-2 : tie.Need-returns-2 Inv-loop μ-loop

@@ -1,12 +1,24 @@
 -- `End::read` meets its contract. Each arm knows which number the register has. Assumes nothing.
-use mathlib.Core.Path.{refl, sym, subst}
+use mathlib.Core.Bool.{false}
+use mathlib.Core.Path.{_≡_, refl, sym, subst}
 use borrow.Author.Needs.{needs}
+use Rattle.end.specs.Good.{bad}
 use Rattle.end.specs.Names.{Names}
 use Rattle.end.specs.Registers.{readOf}
+use Rattle.end.specs.declared.registers.Register.{Register}
 use Rattle.end.proofs.Laws.{cond-true, told}
 use Rattle.end.proofs.RegisterLaws.{read-done, read-message, read-received, read-outside}
 use Rattle.end.proofs.End.read.Statement.{statement}
 use Rattle.end.proofs.End.read.Tie as tie
+
+-- past the first test the end is one that answer 1 does not meet
+fine : (c : tie.Else1) → bad (c .before .before .args .self) ≡ false
+fine c = told (c .before .bad .ensures) (c .if1 .left)
+
+-- the register that an arm is for, as a fact of its number
+number : (c : tie.After-named) {k : Register} → c .named .result ≡ k
+    → Names (c .before .before .before .args .register) k
+number c h = subst (Names (c .before .before .before .args .register)) h (c .named .ensures)
 
 bad-requires : tie.Need-bad-requires
 bad-requires c κs = search needs
@@ -22,58 +34,65 @@ enum-told : tie.Need-enum-told
 enum-told c = search needs
 
 control-requires : tie.Need-control-requires
-control-requires c κs = told (c .before .before .before .before .bad .ensures) (c .before .before .before .if1 .left)
+control-requires c κs = fine (c .before .before .before)
 
 enum-known-name : tie.Need-enum-known-name
 enum-known-name c = search needs
 
 pair-requires : tie.Need-pair-requires
-pair-requires c κs = subst (Names (c .before .before .before .before .before .before .before .args .register)) (c .before .before .name .given .1) (c .before .before .before .before .named .ensures) .1
+pair-requires c κs = number (c .before .before .before .before) (c .before .before .name .given .1) .1
 
 enum-told-2 : tie.Need-enum-told-2
 enum-told-2 c = search needs
 
 status-requires : tie.Need-status-requires
-status-requires c κs = told (c .before .before .before .before .bad .ensures) (c .before .before .before .if1 .left)
+status-requires c κs = fine (c .before .before .before)
 
 enum-known-name-2 : tie.Need-enum-known-name-2
 enum-known-name-2 c = search needs
 
 pair-requires-2 : tie.Need-pair-requires-2
-pair-requires-2 c κs = subst (Names (c .before .before .before .before .before .before .before .args .register)) (c .before .before .name2 .given .1) (c .before .before .before .before .named .ensures) .1
+pair-requires-2 c κs = number (c .before .before .before .before) (c .before .before .name2 .given .1) .1
 
 enum-told-3 : tie.Need-enum-told-3
 enum-told-3 c = search needs
 
 returns-2 : tie.Need-returns-2
 returns-2 c =
-    let e = c .before .before .before .before .before .before .before .args .self in
-    let n = subst (Names (c .before .before .before .before .before .before .before .args .register)) (c .before .before .enum-told .given .1) (c .before .before .before .before .named .ensures) in
-    rw (c .before .control .ensures, n) (sym (read-done e 2308 (told (c .before .before .before .before .before .before .bad .ensures) (c .before .before .before .before .before .if1 .left)) refl))
+    let s = c .before .before .before .before in
+    let a = s .before .before .before .args in
+    let n = number s (c .before .before .enum-told .given .1) in
+    rw (c .before .control .ensures, n) (sym (read-done (a .self) 2308 (fine (s .before)) refl))
 
 returns-3 : tie.Need-returns-3
 returns-3 c =
-    let e = c .before .before .before .before .before .before .before .before .args .self in
-    let n = subst (Names (c .before .before .before .before .before .before .before .before .args .register)) (c .before .before .before .name .given .1) (c .before .before .before .before .before .named .ensures) in
-    rw (c .pair .ensures, n .0) (sym (read-message e (c .before .before .before .name .given .0 .0) (told (c .before .before .before .before .before .before .before .bad .ensures) (c .before .before .before .before .before .before .if1 .left)) (n .1)))
+    let s = c .before .before .before .before .before in
+    let a = s .before .before .before .args in
+    let n = number s (c .before .before .before .name .given .1) in
+    rw (c .pair .ensures, n .0)
+    (sym (read-message (a .self) (c .before .before .before .name .given .0 .0) (fine (s .before)) (n .1)))
 
 returns-4 : tie.Need-returns-4
 returns-4 c =
-    let e = c .before .before .before .before .before .before .args .self in
-    let n = subst (Names (c .before .before .before .before .before .before .args .register)) (c .before .enum-told2 .given .1) (c .before .before .before .named .ensures) in
-    rw (c .status .ensures, n) (sym (read-done e 2313 (told (c .before .before .before .before .before .bad .ensures) (c .before .before .before .before .if1 .left)) refl))
+    let s = c .before .before .before in
+    let a = s .before .before .before .args in
+    let n = number s (c .before .enum-told2 .given .1) in
+    rw (c .status .ensures, n) (sym (read-done (a .self) 2313 (fine (s .before)) refl))
 
 returns-5 : tie.Need-returns-5
 returns-5 c =
-    let e = c .before .before .before .before .before .before .before .before .before .before .args .self in
-    let n = subst (Names (c .before .before .before .before .before .before .before .before .before .before .args .register)) (c .before .before .before .before .before .name2 .given .1) (c .before .before .before .before .before .before .before .named .ensures) in
-    rw (c .before .before .pair2 .ensures, n .0) (sym (read-received e (c .before .before .before .before .before .name2 .given .0 .0) (told (c .before .before .before .before .before .before .before .before .before .bad .ensures) (c .before .before .before .before .before .before .before .before .if1 .left)) (n .1)))
+    let s = c .before .before .before .before .before .before .before in
+    let a = s .before .before .before .args in
+    let n = number s (c .before .before .before .before .before .name2 .given .1) in
+    let i = c .before .before .before .before .before .name2 .given .0 .0 in
+    rw (c .before .before .pair2 .ensures, n .0) (sym (read-received (a .self) i (fine (s .before)) (n .1)))
 
 returns-6 : tie.Need-returns-6
 returns-6 c =
-    let e = c .before .before .before .before .before .args .self in
-    let n = subst (Names (c .before .before .before .before .before .args .register)) (c .enum-told3 .given .1) (c .before .before .named .ensures) in
-    sym (read-outside e (c .before .before .before .before .before .args .register) (told (c .before .before .before .before .bad .ensures) (c .before .before .before .if1 .left)) n)
+    let s = c .before .before in
+    let a = s .before .before .before .args in
+    let n = number s (c .enum-told3 .given .1) in
+    sym (read-outside (a .self) (a .register) (fine (s .before)) n)
 
 pub read-spec : {M : Type 1} → statement M
 read-spec =

@@ -1,11 +1,17 @@
 -- `End::take` meets its contract. Each return is the row of `takeOf` whose test it knows. Assumes nothing.
-use mathlib.Core.Path.{sym, _∙_}
+use mathlib.Core.Bool.{false}
+use mathlib.Core.Path.{_≡_, sym, _∙_}
 use borrow.Author.Needs.{needs}
 use borrow.Author.Tests.{lt-ltb, le-ltb}
+use Rattle.end.specs.Good.{bad}
 use Rattle.end.specs.Taking.{takeOf}
 use Rattle.end.proofs.Laws.{cond-true, cond-false, told}
 use Rattle.end.proofs.End.take.Statement.{statement}
 use Rattle.end.proofs.End.take.Tie as tie
+
+-- past the first test the end is one that answer 1 does not meet
+fine : (c : tie.Else1) → bad (c .before .before .args .self) ≡ false
+fine c = told (c .before .bad .ensures) (c .if1 .left)
 
 bad-requires : tie.Need-bad-requires
 bad-requires c κs = search needs
@@ -16,16 +22,16 @@ returns c = sym (cond-true _ _ (told (c .before .bad .ensures) (c .if1 .taken)))
 
 returns-2 : tie.Need-returns-2
 unfolding takeOf
-returns-2 c = sym (cond-false _ _ (told (c .before .before .bad .ensures) (c .before .if1 .left)) ∙ cond-true _ _ (lt-ltb 1023 _ (c .if2 .taken)))
+returns-2 c = sym (cond-false _ _ (fine (c .before)) ∙ cond-true _ _ (lt-ltb 1023 _ (c .if2 .taken)))
 
 taken-requires : tie.Need-taken-requires
-taken-requires c κs = told (c .before .before .bad .ensures) (c .before .if1 .left)
+taken-requires c κs = fine (c .before)
 
 returns-3 : tie.Need-returns-3
 unfolding takeOf
 returns-3 c =
     rw (c .taken .ensures)
-    (sym (cond-false _ _ (told (c .before .before .before .bad .ensures) (c .before .before .if1 .left)) ∙ cond-false _ _ (le-ltb 1023 _ (c .before .if2 .left))))
+    (sym (cond-false _ _ (fine (c .before .before)) ∙ cond-false _ _ (le-ltb 1023 _ (c .before .if2 .left))))
 
 pub take-spec : {M : Type 1} → statement M
 take-spec = tie.close (tie.spec bad-requires returns returns-2 taken-requires returns-3)

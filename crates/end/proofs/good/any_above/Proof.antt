@@ -9,8 +9,6 @@ use Rattle.end.specs.Good.{above}
 use Rattle.end.proofs.Laws.{above-at, above-past}
 use Rattle.end.proofs.good.any_above.Statement.{statement}
 use Rattle.end.proofs.good.any_above.Tie as tie
-use Rattle.end.proofs.good.any_above.Reads as reads
-use Rattle.end.proofs.good.any_above.Lts as lts
 
 abbrev Inv-loop : tie.InvT-loop
 Inv-loop limit symbols i₀ i = (i ≤ 12) × (above limit (drop i symbols) ≡ above limit symbols)
@@ -18,39 +16,32 @@ Inv-loop limit symbols i₀ i = (i ≤ 12) × (above limit (drop i symbols) ≡ 
 abbrev μ-loop : tie.MeasureT-loop
 μ-loop limit symbols i₀ i = 12 - i
 
--- src/good.rt:94:5
 loop-holds : tie.Need-loop-holds Inv-loop μ-loop
 loop-holds c = (omega arith, refl)
 
--- src/good.rt:95:12
 mul-if1 : tie.Need-mul-if1 Inv-loop μ-loop
 mul-if1 c = search needs
 
--- src/good.rt:95:12
 array-read-if1 : tie.Need-array-read-if1 Inv-loop μ-loop
 array-read-if1 c = search needs
 
--- src/good.rt:96:13
 returns : tie.Need-returns Inv-loop μ-loop
 returns c =
     let a = c .before .before in
     sym (above-at (a .before .args .limit) (a .before .args .t2) (a .loop .i) (c .if1 .taken)) ∙ a .loop .inv .1
 
--- src/good.rt:98:9
 add-i : tie.Need-add-i Inv-loop μ-loop
 add-i c = search needs
 
--- src/good.rt:94:5
 loop-less : tie.Need-loop-less Inv-loop μ-loop
 loop-less c = search needs
 
--- src/good.rt:94:5
 loop-again : tie.Need-loop-again Inv-loop μ-loop
 loop-again c =
     let a = c .before .before in
-    (omega arith, rw add-one (above-past (a .before .args .limit) (a .before .args .t2) (a .loop .i) (c .if1 .left) ∙ a .loop .inv .1))
+    let b = a .before .args in
+    (omega arith, rw add-one (above-past (b .limit) (b .t2) (a .loop .i) (c .if1 .left) ∙ a .loop .inv .1))
 
--- src/good.rt:90:1
 returns-2 : tie.Need-returns-2 Inv-loop μ-loop
 unfolding above
 returns-2 c =

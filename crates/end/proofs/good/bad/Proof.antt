@@ -13,7 +13,9 @@ any-above-requires-2 c κs = search needs
 
 returns : tie.Need-returns
 unfolding bad
-returns c = rw (c .before .before .before .before .before .before .any-above .ensures, c .before .before .before .before .before .any-above2 .ensures) (simp or-assoc)
+returns c =
+    let a = c .before .before .before .before .before in
+    rw (a .before .any-above .ensures, a .any-above2 .ensures) (simp or-assoc)
 
 pub bad-spec : {M : Type 1} → statement M
 bad-spec = tie.close (tie.spec any-above-requires any-above-requires-2 returns)

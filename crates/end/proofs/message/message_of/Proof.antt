@@ -1,4 +1,5 @@
--- `message::message_of` meets its contract. The invariant: the bytes before i are those of the symbols. Assumes nothing.
+-- `message::message_of` meets its contract. The invariant: the bytes before i are those of the symbols.
+-- Assumes nothing.
 use Prim.Native.Nat.{_≤_, _-_}
 use mathlib.Core.List.{map}
 use mathlib.Core.Path.{_≡_, refl, sym, _∙_}
@@ -12,48 +13,38 @@ use Rattle.frame.specs.Frame.{dataOf}
 use Rattle.end.proofs.Laws.{copy-step}
 use Rattle.end.proofs.message.message_of.Statement.{statement}
 use Rattle.end.proofs.message.message_of.Tie as tie
-use Rattle.end.proofs.message.message_of.Reads as reads
-use Rattle.end.proofs.message.message_of.Lts as lts
 
 abbrev Inv-loop : tie.InvT-loop
-Inv-loop symbols bytes₀ i₀ bytes i = (i ≤ 8) × (length bytes ≡ 8) × (take i bytes ≡ map dataOf (take i (drop 2 symbols)))
+Inv-loop symbols bytes₀ i₀ bytes i =
+    (i ≤ 8) × (length bytes ≡ 8) × (take i bytes ≡ map dataOf (take i (drop 2 symbols)))
 
 abbrev μ-loop : tie.MeasureT-loop
 μ-loop symbols bytes₀ i₀ bytes i = 8 - i
 
--- src/message.rt:32:5
 loop-holds : tie.Need-loop-holds Inv-loop μ-loop
 loop-holds c = (omega arith, refl, refl)
 
--- src/message.rt:33:29
 add-bytes : tie.Need-add-bytes Inv-loop μ-loop
 add-bytes c = search needs
 
--- src/message.rt:33:21
 mul-bytes : tie.Need-mul-bytes Inv-loop μ-loop
 mul-bytes c = search needs
 
--- src/message.rt:33:21
 array-read-bytes : tie.Need-array-read-bytes Inv-loop μ-loop
 array-read-bytes c = search needs
 
--- src/message.rt:33:20
 cast-bytes : tie.Need-cast-bytes Inv-loop μ-loop
 cast-bytes c = search needs
 
--- src/message.rt:33:9
 array-write-bytes : tie.Need-array-write-bytes Inv-loop μ-loop
 array-write-bytes c = search needs
 
--- src/message.rt:34:9
 add-i : tie.Need-add-i Inv-loop μ-loop
 add-i c = search needs
 
--- src/message.rt:32:5
 loop-less : tie.Need-loop-less Inv-loop μ-loop
 loop-less c = search needs
 
--- src/message.rt:32:5
 loop-again : tie.Need-loop-again Inv-loop μ-loop
 loop-again c =
     let a = c .before in
@@ -67,7 +58,6 @@ loop-again c =
           (rw (getD-drop, add-comm 2)) (a .loop .inv .2)),
     )
 
--- src/message.rt:27:1
 returns : tie.Need-returns Inv-loop μ-loop
 returns c =
     let a = c .before in

@@ -34,25 +34,33 @@ mul-result : tie.Need-mul-result
 mul-result c = search needs
 
 add-result-4 : tie.Need-add-result-4
-add-result-4 c = omega (arith, good _ (c .before .before .before .before .before .pre) .number)
+add-result-4 c =
+    let g = good _ (c .before .before .before .before .before .pre) in
+    omega (arith, g .number)
 
 bit-requires-5 : tie.Need-bit-requires-5
 bit-requires-5 c κs = search needs
 
 add-result-5 : tie.Need-add-result-5
-add-result-5 c = omega (arith, good _ (c .before .before .before .before .before .before .pre) .number)
+add-result-5 c =
+    let g = good _ (c .before .before .before .before .before .before .pre) in
+    omega (arith, g .number)
 
 bit-requires-6 : tie.Need-bit-requires-6
 bit-requires-6 c κs = search needs
 
 add-result-6 : tie.Need-add-result-6
-add-result-6 c = omega (arith, good _ (c .before .before .before .before .before .before .before .pre) .number)
+add-result-6 c =
+    let g = good _ (c .before .before .before .before .before .before .before .pre) in
+    omega (arith, g .number)
 
 wide-requires-2 : tie.Need-wide-requires-2
 wide-requires-2 c κs = search needs
 
 add-result-7 : tie.Need-add-result-7
-add-result-7 c = omega (arith, good _ (c .before .before .before .before .before .before .before .before .pre) .number, good _ (c .before .before .before .before .before .before .before .before .pre) .loaded)
+add-result-7 c =
+    let g = good _ (c .before .before .before .before .before .before .before .before .pre) in
+    omega (arith, g .number, g .loaded)
 
 returns : tie.Need-returns
 returns c = search needs

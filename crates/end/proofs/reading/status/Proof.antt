@@ -22,13 +22,17 @@ mul-result : tie.Need-mul-result
 mul-result c = search needs
 
 add-result-2 : tie.Need-add-result-2
-add-result-2 c = omega (arith, good _ (c .before .before .before .pre) .got)
+add-result-2 c =
+    let g = good _ (c .before .before .before .pre) in
+    omega (arith, g .got)
 
 wide-requires-2 : tie.Need-wide-requires-2
 wide-requires-2 c κs = search needs
 
 add-result-3 : tie.Need-add-result-3
-add-result-3 c = omega (arith, good _ (c .before .before .before .before .pre) .got, good _ (c .before .before .before .before .pre) .partner)
+add-result-3 c =
+    let g = good _ (c .before .before .before .before .pre) in
+    omega (arith, g .got, g .partner)
 
 returns : tie.Need-returns
 returns c = search needs

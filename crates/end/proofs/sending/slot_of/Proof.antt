@@ -12,7 +12,10 @@ frame-start-requires c κs = search needs
 
 returns : tie.Need-returns
 unfolding frameStart
-returns c = c .frame-start .ensures ∙ ap (λ (n : Bool). started n (c .before .before .before .args .end)) (sym (eq-eqb _ 0 (c .before .if1 .taken)))
+returns c =
+    let t = c .before in
+    c .frame-start .ensures
+    ∙ ap (λ (n : Bool). started n (t .before .before .args .end)) (sym (eq-eqb _ 0 (t .if1 .taken)))
 
 returns-2 : tie.Need-returns-2
 returns-2 c = ap (λ (n : Bool). started n (c .before .before .args .end)) (sym (ne-eqb _ 0 (c .if1 .left)))

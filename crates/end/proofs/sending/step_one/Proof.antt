@@ -6,7 +6,9 @@ use Rattle.end.proofs.sending.step_one.Statement.{statement}
 use Rattle.end.proofs.sending.step_one.Tie as tie
 
 returns : tie.Need-returns
-returns c = ap (λ (b : Bool). stepOne b (c .before .before .before .before .before .args .end)) (sym (c .before .before .before .before .if1 .taken))
+returns c =
+    let t = c .before .before .before .before in
+    ap (λ (b : Bool). stepOne b (t .before .args .end)) (sym (t .if1 .taken))
 
 returns-2 : tie.Need-returns-2
 returns-2 c = ap (λ (b : Bool). stepOne b (c .before .args .end)) (sym (c .if1 .left))

@@ -1,8 +1,9 @@
 -- `sending::steps_two_to_four` meets its contract. The record at the known test is the definition at it. Assumes
 -- nothing.
 use mathlib.Core.Bool.{Bool}
-use mathlib.Core.Path.{sym, ap}
+use mathlib.Core.Path.{sym, ap, _∙_}
 use borrow.Author.Needs.{needs}
+use Rattle.frame.specs.Frame.{build}
 use Rattle.end.specs.Sending.{stepsTwoToFour}
 use Rattle.end.proofs.Laws.{told}
 use Rattle.end.proofs.sending.steps_two_to_four.Statement.{statement}
@@ -19,13 +20,21 @@ build-requires c κs = search needs
 
 returns : tie.Need-returns
 returns c =
-    rw (c .before .before .before .before .build .ensures, c .before .before .before .before .before .ten-bytes .ensures, c .before .if1 .taken)
-    (ap (λ (l : Bool). stepsTwoToFour (c .before .before .before .before .before .before .before .args .acknowledged) l (c .before .before .before .before .before .before .before .args .end)) (sym (told (c .before .before .before .before .before .before .loads .ensures) (c .before .if1 .taken))))
+    let t = c .before .before .before .before .before in
+    let a = t .before .before .args in
+    let s = c .before .before .before .before .build .ensures ∙ ap build (t .ten-bytes .ensures) in
+    let h = c .before .if1 .taken in
+    rw (s, h)
+    (ap (λ (l : Bool). stepsTwoToFour (a .acknowledged) l (a .end)) (sym (told (t .before .loads .ensures) h)))
 
 returns-2 : tie.Need-returns-2
 returns-2 c =
-    rw (c .before .before .before .build .ensures, c .before .before .before .before .ten-bytes .ensures, c .if1 .left)
-    (ap (λ (l : Bool). stepsTwoToFour (c .before .before .before .before .before .before .args .acknowledged) l (c .before .before .before .before .before .before .args .end)) (sym (told (c .before .before .before .before .before .loads .ensures) (c .if1 .left))))
+    let t = c .before .before .before .before in
+    let a = t .before .before .args in
+    let s = c .before .before .before .build .ensures ∙ ap build (t .ten-bytes .ensures) in
+    let h = c .if1 .left in
+    rw (s, h)
+    (ap (λ (l : Bool). stepsTwoToFour (a .acknowledged) l (a .end)) (sym (told (t .before .loads .ensures) h)))
 
 pub steps-two-to-four-spec : {M : Type 1} → statement M
 steps-two-to-four-spec =

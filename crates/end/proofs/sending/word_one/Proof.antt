@@ -41,8 +41,10 @@ cast-result c = search needs
 
 returns : tie.Need-returns
 returns c =
-    rw (c .before .before .before .before .before .bit .ensures .0, c .before .before .before .before .bit2 .ensures .0, c .before .before .before .bit3 .ensures .0, c .before .before .bit4 .ensures .0)
-    (rw (c .wide .ensures .0, c .before .message-number .ensures .0, c .before .before .before .before .before .before .is-valid .ensures))
+    let b = c .before .before in
+    let v = c .before .before .before .before .before in
+    rw (v .bit .ensures .0, b .before .before .bit2 .ensures .0, b .before .bit3 .ensures .0, b .bit4 .ensures .0)
+    (rw (c .wide .ensures .0, c .before .message-number .ensures .0, v .before .is-valid .ensures))
 
 pub word-one-spec : {M : Type 1} → statement M
 word-one-spec =

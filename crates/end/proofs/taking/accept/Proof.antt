@@ -17,15 +17,23 @@ crc-right-requires c κs = search needs
 
 returns-2 : tie.Need-returns-2
 unfolding even
-returns-2 c = rw (lt-leb 512 _ (c .before .before .before .before .before .if1 .left), told (c .before .before .before .before .parity .ensures) (c .before .before .before .if2 .taken), eq-eqb _ 11 (c .before .if3 .taken)) (c .crc-right .ensures)
+returns-2 c =
+    let p = c .before .before .before .before in
+    rw (lt-leb 512 _ (p .before .if1 .left), told (p .parity .ensures) (c .before .before .before .if2 .taken))
+    (rw (eq-eqb _ 11 (c .before .if3 .taken)) (c .crc-right .ensures))
 
 returns-3 : tie.Need-returns-3
 unfolding even
-returns-3 c = rw (lt-leb 512 _ (c .before .before .before .before .if1 .left), told (c .before .before .before .parity .ensures) (c .before .before .if2 .taken), ne-eqb _ 11 (c .if3 .left))
+returns-3 c =
+    let p = c .before .before .before in
+    rw (lt-leb 512 _ (p .before .if1 .left), told (p .parity .ensures) (c .before .before .if2 .taken))
+    (rw (ne-eqb _ 11 (c .if3 .left)))
 
 returns-4 : tie.Need-returns-4
 unfolding even
-returns-4 c = rw (lt-leb 512 _ (c .before .before .if1 .left), told (c .before .parity .ensures) (c .if2 .left))
+returns-4 c =
+    let p = c .before in
+    rw (lt-leb 512 _ (p .before .if1 .left), told (p .parity .ensures) (c .if2 .left))
 
 pub accept-spec : {M : Type 1} → statement M
 accept-spec =

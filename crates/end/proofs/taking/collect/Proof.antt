@@ -17,7 +17,10 @@ parity-requires c κs = search needs
 
 returns-2 : tie.Need-returns-2
 unfolding even
-returns-2 c = rw (lt-leb 512 _ (c .before .before .before .if1 .left), told (c .before .before .parity .ensures) (c .before .if2 .taken), eq-eqb _ 0 (c .if3 .taken)) (count-is _ 0 (c .if3 .taken))
+returns-2 c =
+    let p = c .before .before in
+    rw (lt-leb 512 _ (p .before .if1 .left), told (p .parity .ensures) (c .before .if2 .taken))
+    (rw (eq-eqb _ 0 (c .if3 .taken)) (count-is _ 0 (c .if3 .taken)))
 
 mul-collector : tie.Need-mul-collector
 mul-collector c = search needs
@@ -27,21 +30,29 @@ element-write-collector c = search needs
 
 returns-3 : tie.Need-returns-3
 unfolding even
-returns-3 c = rw (lt-leb 512 _ (c .before .before .before .before .if1 .left), told (c .before .before .before .parity .ensures) (c .before .before .if2 .taken), ne-eqb _ 0 (c .before .if3 .left), eq-eqb _ 11 (c .if4 .taken))
+returns-3 c =
+    let p = c .before .before .before in
+    rw (lt-leb 512 _ (p .before .if1 .left), told (p .parity .ensures) (c .before .before .if2 .taken))
+    (rw (ne-eqb _ 0 (c .before .if3 .left), eq-eqb _ 11 (c .if4 .taken)))
 
 add-collector : tie.Need-add-collector
 add-collector c = search needs
 
 returns-4 : tie.Need-returns-4
 unfolding even
-returns-4 c = rw (lt-leb 512 _ (c .before .before .before .before .if1 .left), told (c .before .before .before .parity .ensures) (c .before .before .if2 .taken), ne-eqb _ 0 (c .before .if3 .left), ne-eqb _ 11 (c .if4 .left))
+returns-4 c =
+    let p = c .before .before .before in
+    rw (lt-leb 512 _ (p .before .if1 .left), told (p .parity .ensures) (c .before .before .if2 .taken))
+    (rw (ne-eqb _ 0 (c .before .if3 .left), ne-eqb _ 11 (c .if4 .left)))
 
 element-write-collector-2 : tie.Need-element-write-collector-2
 element-write-collector-2 c = search needs
 
 returns-5 : tie.Need-returns-5
 unfolding even
-returns-5 c = rw (lt-leb 512 _ (c .before .before .if1 .left), told (c .before .parity .ensures) (c .if2 .left))
+returns-5 c =
+    let p = c .before in
+    rw (lt-leb 512 _ (p .before .if1 .left), told (p .parity .ensures) (c .if2 .left))
 
 pub collect-spec : {M : Type 1} → statement M
 collect-spec =

@@ -25,16 +25,18 @@ cast-inbox c = search needs
 
 returns : tie.Need-returns
 returns c =
-    let a = c .before .before .before .before .before .args in
-    let s = ap (λ (h : Heard). enters (a .accepted) h (a .inbox)) (c .before .before .before .before .said-by .ensures) in
-    rw (c .before .message-of .ensures, c .before .before .before .before .said-by .ensures)
-    (ap (λ (b : Bool). entered b (a .t2) (a .inbox)) (told (c .before .before .if1 .taken) (c .before .before .before .enters .ensures ∙ s)))
+    let a = c .before .before .before .before .args in
+    let t = c .before in
+    let s = ap (λ (h : Heard). enters (a .accepted) h (a .inbox)) (t .before .before .said-by .ensures) in
+    rw (c .message-of .ensures, t .before .before .said-by .ensures)
+    (ap (λ (b : Bool). entered b (a .t2) (a .inbox)) (told (t .if1 .taken) (t .before .enters .ensures ∙ s)))
 
 returns-2 : tie.Need-returns-2
 returns-2 c =
     let a = c .before .before .before .args in
-    let s = ap (λ (h : Heard). enters (a .accepted) h (a .inbox)) (c .before .before .said-by .ensures) in
-    ap (λ (b : Bool). entered b (a .t2) (a .inbox)) (told (c .if1 .left) (c .before .enters .ensures ∙ s))
+    let t = c in
+    let s = ap (λ (h : Heard). enters (a .accepted) h (a .inbox)) (t .before .before .said-by .ensures) in
+    ap (λ (b : Bool). entered b (a .t2) (a .inbox)) (told (t .if1 .left) (t .before .enters .ensures ∙ s))
 
 pub enter-spec : {M : Type 1} → statement M
 enter-spec =

@@ -10,10 +10,15 @@ said-by-requires : tie.Need-said-by-requires
 said-by-requires c κs = search needs
 
 returns : tie.Need-returns
-returns c = c .said-by .ensures ∙ ap (λ (b : Bool). pickHeard b (saidBy (c .before .before .args .symbols)) (c .before .before .args .last)) (sym (c .before .if1 .taken))
+returns c =
+    let a = c .before .before .args in
+    c .said-by .ensures
+    ∙ ap (λ (b : Bool). pickHeard b (saidBy (a .symbols)) (a .last)) (sym (c .before .if1 .taken))
 
 returns-2 : tie.Need-returns-2
-returns-2 c = ap (λ (b : Bool). pickHeard b (saidBy (c .before .args .symbols)) (c .before .args .last)) (sym (c .if1 .left))
+returns-2 c =
+    let a = c .before .args in
+    ap (λ (b : Bool). pickHeard b (saidBy (a .symbols)) (a .last)) (sym (c .if1 .left))
 
 pub hear-spec : {M : Type 1} → statement M
 hear-spec = tie.close (tie.spec said-by-requires returns returns-2)

@@ -6,10 +6,14 @@ use Rattle.end.proofs.taking.settle.Statement.{statement}
 use Rattle.end.proofs.taking.settle.Tie as tie
 
 returns : tie.Need-returns
-returns c = ap (λ (r : Bool). settle r (c .before .before .before .before .args .end .heard .toggle) (c .before .before .before .before .args .end .inbox)) (sym (c .if1 .taken))
+returns c =
+    let e = c .before .before .before .before .args .end in
+    ap (λ (r : Bool). settle r (e .heard .toggle) (e .inbox)) (sym (c .if1 .taken))
 
 returns-2 : tie.Need-returns-2
-returns-2 c = ap (λ (r : Bool). settle r (c .before .before .before .before .args .end .heard .toggle) (c .before .before .before .before .args .end .inbox)) (sym (c .if1 .left))
+returns-2 c =
+    let e = c .before .before .before .before .args .end in
+    ap (λ (r : Bool). settle r (e .heard .toggle) (e .inbox)) (sym (c .if1 .left))
 
 pub settle-spec : {M : Type 1} → statement M
 settle-spec = tie.close (tie.spec returns returns-2)

@@ -23,7 +23,10 @@ enter-requires c κs = search needs
 returns : tie.Need-returns
 unfolding taken
 returns c =
-    rw (c .enter .ensures, c .before .hear .ensures, c .before .before .accept .ensures, c .before .before .before .before .collect .ensures, c .before .before .before .before .before .settle .ensures)
+    let a = c .before .before in
+    let s = c .before .before .before .before in
+    let h = c .before in
+    rw (c .enter .ensures, h .hear .ensures, a .accept .ensures, s .collect .ensures, s .before .settle .ensures)
 
 pub taken-spec : {M : Type 1} → statement M
 taken-spec =

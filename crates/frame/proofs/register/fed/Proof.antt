@@ -1,5 +1,5 @@
--- `frame::register::fed` meets its contract: the zeros still to come, run from the register as it is, give what the byte
--- gives from the register at entry. Assumes nothing.
+-- `frame::register::fed` meets its contract: the zeros still to come, run from the register as it is, give what the
+-- byte gives from the register at entry. Assumes nothing.
 use mathlib.Core.Bool.{false}
 use mathlib.Core.Path.{_≡_, sym, _∙_}
 use borrow.Author.Needs.{needs}
@@ -32,7 +32,8 @@ loop-less c = search needs
 
 loop-again : tie.Need-loop-again Inv-loop μ-loop
 loop-again c =
-    run-zero (c .before .before .loop .next) (c .shifted .result) (c .before .before .loop .left) (c .before .loop-test .taken) (c .shifted .ensures)
+    run-zero (c .before .before .loop .next) (c .shifted .result) (c .before .before .loop .left)
+    (c .before .loop-test .taken) (c .shifted .ensures)
     ∙ c .before .before .loop .inv
 
 returns : tie.Need-returns Inv-loop μ-loop

@@ -1,0 +1,31 @@
+-- Each case of document 01's table, P1 to P11, comes out as the page says: both sides compute to the same numbers.
+-- Assumes nothing.
+use Prim.{tt}
+use mathlib.Core.Bool.{xor}
+use mathlib.Core.Path.{refl}
+use Rattle.frame.specs.Bits.{odd, bits, number, oddOnes}
+use Rattle.frame.specs.Check.{someAbove, checkOf}
+use Rattle.frame.specs.Crc.{plus, times, shift, run as feed, crc}
+use Rattle.frame.specs.Frame.{generator, stream, crcOf, even, evenSymbol, oddSymbol, symbols, build, crcRight, noneMarked, allOdd, paritiesRight, acceptable}
+use Rattle.end.specs.Good.{above, bad}
+use Rattle.end.specs.Sending.{acked, frameStart, sendOf}
+use Rattle.end.specs.Taking.{taken, takeOf}
+use Rattle.end.specs.Registers.{readOf, writeOf}
+use Rattle.link.specs.Link.{run, takes}
+use Rattle.cases.specs.Cases.{Case, P1, P2, P3, P4, P5, P6, P7, P8, P9, P10, P11, Agree, table}
+
+pub table-agrees : (c : Case) → Agree (table c)
+unfolding table odd bits number oddOnes plus times shift feed crc generator stream crcOf even evenSymbol oddSymbol
+    symbols build crcRight noneMarked allOdd paritiesRight acceptable xor someAbove checkOf above bad acked frameStart sendOf
+    taken takeOf readOf writeOf run takes
+table-agrees P1 = (refl, (refl, tt))
+table-agrees P2 = (refl, tt)
+table-agrees P3 = (refl, tt)
+table-agrees P4 = (refl, tt)
+table-agrees P5 = (refl, tt)
+table-agrees P6 = (refl, tt)
+table-agrees P7 = (refl, (refl, (refl, tt)))
+table-agrees P8 = (refl, (refl, tt))
+table-agrees P9 = (refl, tt)
+table-agrees P10 = (refl, (refl, (refl, (refl, tt))))
+table-agrees P11 = (refl, (refl, tt))

@@ -1,0 +1,3 @@
+pub mod FinderLaws
+pub mod SearchLaws
+pub mod Identical

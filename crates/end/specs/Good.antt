@@ -38,8 +38,8 @@ resetOf = record {
     confirmed = false;
     number = 0;
     ping = false;
-    bytes = replicate 8 0
-    };
+    bytes = replicate 8 0;
+  };
   collector = record { symbols = replicate 12 0; count = 0 };
   heard = record {
     present = false;
@@ -49,17 +49,17 @@ resetOf = record {
     valid = false;
     toggle = false;
     ack = false;
-    togack = false
-    };
+    togack = false;
+  };
   inbox = record {
     expected = false;
     acknowledge = false;
     full = false;
     toggle = false;
     number = 0;
-    bytes = replicate 8 0
-    }
-  }
+    bytes = replicate 8 0;
+  };
+}
 
 unfoldable pub presentOf : End → Bool
 presentOf e = not (bad e) && e .heard .present

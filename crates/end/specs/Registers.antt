@@ -64,8 +64,8 @@ readEnd e r = record {
     confirmed = e .outbox .confirmed;
     number = e .outbox .number;
     ping = e .outbox .ping;
-    bytes = e .outbox .bytes
-    };
+    bytes = e .outbox .bytes;
+  };
   collector = e .collector;
   heard = e .heard;
   inbox = record {
@@ -74,9 +74,9 @@ readEnd e r = record {
     full = cond (eqb r 2317) false (e .inbox .full);
     toggle = e .inbox .toggle;
     number = e .inbox .number;
-    bytes = e .inbox .bytes
-    }
-  }
+    bytes = e .inbox .bytes;
+  };
+}
 
 unfoldable pub readOf : End → ℕ → Got
 readOf e r =
@@ -100,8 +100,8 @@ writeControl o v = record {
   confirmed = o .confirmed;
   number = cond (o .pending) (o .number) (v / 256 % 16);
   ping = odd (v / 4);
-  bytes = o .bytes
-  }
+  bytes = o .bytes;
+}
 
 abbrev pub writeBytes : Outbox → ℕ → ℕ → Outbox
 writeBytes o i v = record {
@@ -111,8 +111,8 @@ writeBytes o i v = record {
   confirmed = o .confirmed;
   number = o .number;
   ping = o .ping;
-  bytes = set (set (o .bytes) (2 * i) (v % 256)) (2 * i + 1) (v / 256)
-  }
+  bytes = set (set (o .bytes) (2 * i) (v % 256)) (2 * i + 1) (v / 256);
+}
 
 abbrev pub pickOutbox : Bool → Outbox → Outbox → Outbox
 pickOutbox b x y = record {
@@ -122,8 +122,8 @@ pickOutbox b x y = record {
   confirmed = cond b (x .confirmed) (y .confirmed);
   number = cond b (x .number) (y .number);
   ping = cond b (x .ping) (y .ping);
-  bytes = cond b (x .bytes) (y .bytes)
-  }
+  bytes = cond b (x .bytes) (y .bytes);
+}
 
 abbrev pub written : End → ℕ → ℕ → End
 written e r v = record {
@@ -131,8 +131,8 @@ written e r v = record {
   outbox = pickOutbox (eqb r 2308) (writeControl (e .outbox) v) (writeBytes (e .outbox) (r - 2309) v);
   collector = e .collector;
   heard = e .heard;
-  inbox = e .inbox
-  }
+  inbox = e .inbox;
+}
 
 unfoldable pub writeOf : End → ℕ → ℕ → Next
 writeOf e r v =
@@ -156,13 +156,13 @@ withHealth e h = record {
     toggle = e .sender .toggle;
     ready = e .sender .ready;
     health = h;
-    loaded = e .sender .loaded
-    };
+    loaded = e .sender .loaded;
+  };
   outbox = e .outbox;
   collector = e .collector;
   heard = e .heard;
-  inbox = e .inbox
-  }
+  inbox = e .inbox;
+}
 
 unfoldable pub healthOf : End → ℕ → Next
 healthOf e h =

@@ -36,8 +36,8 @@ stepOne a e = record {
     toggle = cond a (e .outbox .toggle) (e .sender .toggle);
     ready = cond a true (e .sender .ready);
     health = e .sender .health;
-    loaded = e .sender .loaded
-    };
+    loaded = e .sender .loaded;
+  };
   outbox = record {
     pending = e .outbox .pending;
     toggle = e .outbox .toggle;
@@ -45,12 +45,12 @@ stepOne a e = record {
     confirmed = cond a (e .heard .togack) (e .outbox .confirmed);
     number = e .outbox .number;
     ping = e .outbox .ping;
-    bytes = e .outbox .bytes
-    };
+    bytes = e .outbox .bytes;
+  };
   collector = e .collector;
   heard = e .heard;
-  inbox = e .inbox
-  }
+  inbox = e .inbox;
+}
 
 abbrev pub loads : End → Bool
 loads e = e .outbox .pending && e .sender .ready
@@ -90,8 +90,8 @@ stepsTwoToFour a l e = record {
     toggle = e .sender .toggle;
     ready = cond l false (e .sender .ready);
     health = e .sender .health;
-    loaded = e .sender .health
-    };
+    loaded = e .sender .health;
+  };
   outbox = record {
     pending = cond l false (e .outbox .pending);
     toggle = cond l (not (e .outbox .toggle)) (e .outbox .toggle);
@@ -99,12 +99,12 @@ stepsTwoToFour a l e = record {
     confirmed = e .outbox .confirmed;
     number = e .outbox .number;
     ping = e .outbox .ping;
-    bytes = e .outbox .bytes
-    };
+    bytes = e .outbox .bytes;
+  };
   collector = e .collector;
   heard = e .heard;
-  inbox = e .inbox
-  }
+  inbox = e .inbox;
+}
 
 unfoldable pub frameStart : End → End
 frameStart e = stepsTwoToFour (acked e) (loads (stepOne (acked e) e)) (stepOne (acked e) e)
@@ -118,13 +118,13 @@ movedOn e = record {
     toggle = e .sender .toggle;
     ready = e .sender .ready;
     health = e .sender .health;
-    loaded = e .sender .loaded
-    };
+    loaded = e .sender .loaded;
+  };
   outbox = e .outbox;
   collector = e .collector;
   heard = e .heard;
-  inbox = e .inbox
-  }
+  inbox = e .inbox;
+}
 
 -- the end whose symbol goes out in this slot, where n says that a new frame is made
 abbrev pub started : Bool → End → End
@@ -133,8 +133,8 @@ started n e = record {
   outbox = cond n (frameStart e .outbox) (e .outbox);
   collector = e .collector;
   heard = e .heard;
-  inbox = e .inbox
-  }
+  inbox = e .inbox;
+}
 
 -- the end of this slot: at position 0 a frame is made
 abbrev pub slotOf : End → End

@@ -35,8 +35,8 @@ settle r toggle i = record {
   full = i .full;
   toggle = i .toggle;
   number = i .number;
-  bytes = i .bytes
-  }
+  bytes = i .bytes;
+}
 
 abbrev pub settled : End → Inbox
 settled e = settle (releases e) (e .heard .toggle) (e .inbox)
@@ -73,8 +73,8 @@ saidBy l = record {
   valid = odd (getD l 1 0 / 128);
   toggle = odd (getD l 1 0 / 64);
   ack = odd (getD l 1 0 / 32);
-  togack = odd (getD l 1 0 / 16)
-  }
+  togack = odd (getD l 1 0 / 16);
+}
 
 abbrev pub accepts : ℕ → Collector → Bool
 accepts s c = completes s c && crcRight (placed s c)
@@ -88,8 +88,8 @@ pickHeard b x y = record {
   valid = cond b (x .valid) (y .valid);
   toggle = cond b (x .toggle) (y .toggle);
   ack = cond b (x .ack) (y .ack);
-  togack = cond b (x .togack) (y .togack)
-  }
+  togack = cond b (x .togack) (y .togack);
+}
 
 abbrev pub enters : Bool → Heard → Inbox → Bool
 enters accepted h i = accepted && (not (i .full) && (h .valid && Bool·beq (h .toggle) (i .expected)))
@@ -102,8 +102,8 @@ entered b l i = record {
   full = cond b true (i .full);
   toggle = cond b (saidBy l .toggle) (i .toggle);
   number = cond b (getD l 1 0 % 16) (i .number);
-  bytes = cond b (map dataOf (take 8 (drop 2 l))) (i .bytes)
-  }
+  bytes = cond b (map dataOf (take 8 (drop 2 l))) (i .bytes);
+}
 
 unfoldable pub taken : ℕ → End → End
 taken s e = record {
@@ -112,11 +112,11 @@ taken s e = record {
   collector = collected s (e .collector);
   heard = pickHeard (accepts s (e .collector)) (saidBy (placed s (e .collector))) (e .heard);
   inbox =
-    entered
-    (enters (accepts s (e .collector)) (saidBy (placed s (e .collector))) (settled e))
-    (placed s (e .collector))
-    (settled e)
-  }
+      entered
+      (enters (accepts s (e .collector)) (saidBy (placed s (e .collector))) (settled e))
+      (placed s (e .collector))
+      (settled e);
+}
 
 unfoldable pub takeOf : End → ℕ → Next
 takeOf e s =

@@ -2,5 +2,4 @@ pub mod Good
 pub mod Sending
 pub mod Taking
 pub mod Registers
-pub mod EndCases
 pub mod Names

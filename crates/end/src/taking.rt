@@ -15,11 +15,6 @@ ghost use Rattle.end.specs.Good.{bad};
 ghost use Rattle.end.specs.Taking.{settled, completes, collected, saidBy, pickHeard, enters, entered};
 ghost use Rattle.end.specs.Taking.{taken, takeOf};
 
-// A symbol of 512 or more is marked; none is above 1,023.
-const MARKED: u16 = 512;
-
-const LARGEST: u16 = 1023;
-
 impl End {
     // Settle, collect and, with the twelfth symbol of a frame whose CRC is right, accept and enter.
     pub fn take(self, symbol: u16) -> Next
@@ -31,7 +26,7 @@ impl End {
                 end: self,
             };
         }
-        if symbol > LARGEST {
+        if symbol > frame::LARGEST {
             return Next {
                 answer: Answer::BadSymbol,
                 end: self,
@@ -87,7 +82,7 @@ fn collect(symbol: u16, mut collector: Collector) -> Collector
 {
     let count = collector.count;
     let place = count as usize;
-    if symbol >= MARKED {
+    if symbol >= frame::MARKED {
         collector.count = 0;
         return collector;
     }
@@ -112,7 +107,7 @@ fn collect(symbol: u16, mut collector: Collector) -> Collector
 fn accept(symbol: u16, before: Collector, symbols: [u16; 12]) -> bool
     ensures { λ r. ⌜ r ≡ completes symbol before && crcRight symbols ⌝ }
 {
-    if symbol >= MARKED {
+    if symbol >= frame::MARKED {
         return false;
     }
     if frame::parity(symbol) {

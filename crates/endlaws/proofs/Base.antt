@@ -19,12 +19,7 @@ use lib.ListN.{getD, set}
 use borrow.Author.Tests.{le-ltb, ltb-false}
 use Rattle.frame.specs.Frame.{dataOf}
 use Rattle.end.specs.Good.{above}
-
-pub cond-true : {A : Type 0} {b : Bool} (x y : A) → b ≡ true → cond b x y ≡ x
-cond-true x y h = rw h
-
-pub cond-false : {A : Type 0} {b : Bool} (x y : A) → b ≡ false → cond b x y ≡ y
-cond-false x y h = rw h
+pub use Rattle.end.proofs.Laws.{cond-true, cond-false, or-no}
 
 pub cond-same : {A : Type 0} (b : Bool) (x : A) → cond b x x ≡ x
 cond-same true x = refl
@@ -37,10 +32,6 @@ either P false x y f g = g refl
 pub or-none : (a b : Bool) → a ≡ false → b ≡ false → (a || b) ≡ false
 or-none true b h k = absurd (true≢false h)
 or-none false b h k = k
-
-pub or-no : (a b : Bool) → (a || b) ≡ false → (a ≡ false) × (b ≡ false)
-or-no true b h = absurd (true≢false h)
-or-no false b h = (refl, h)
 
 pub or-cases : {C : Type 0} (a b : Bool) → (a ≡ true → C) → (b ≡ true → C) → (a || b) ≡ true → C
 or-cases true b f g h = f refl

@@ -1,5 +1,5 @@
 -- No call leads from an end that answer 1 does not meet to one that it meets.
---   Limits, Good e   the nine numbers and arrays that answer 1 looks at, each within its limit
+--   Limits, Good e   the nine numbers and arrays that answer 1 looks at, each within its limit (of crate end)
 --   good, good-not   an end is Good exactly when answer 1 does not meet it
 --   reset-good, after-good, calls-good, reached-good, reached-shaped
 -- Assumes nothing.
@@ -11,7 +11,7 @@ use native.Mathlib.Nat.{le-of-suc-le-suc}
 use native.Mathlib.Omega.{arith}
 use lib.Dec.{eqb}
 use lib.ListN.{getD}
-use borrow.Author.Tests.{le-ltb, ltb-false, leb-false, eqb-false}
+use borrow.Author.Tests.{le-ltb, leb-false, eqb-false}
 use Rattle.frame.proofs.FrameLaws.{build-below}
 use Rattle.frame.specs.Frame.{build}
 use Rattle.end.specs.declared.End.{End}
@@ -20,50 +20,12 @@ use Rattle.end.specs.Good.{above, bad, resetOf}
 use Rattle.end.specs.Sending.{frameStart, started, slotOf, movedOn}
 use Rattle.end.specs.Taking.{placed, counted, accepts, taken}
 use Rattle.end.specs.Registers.{written}
+pub use Rattle.end.proofs.Laws.{Limits, Good, good}
 use Rattle.endlaws.specs.Calls.{Call, after, calls, reached}
 use Rattle.endlaws.specs.Shape.{Shaped}
-use Rattle.endlaws.proofs.Base.{either, or-none, or-no, above-from, above-set}
+use Rattle.endlaws.proofs.Base.{either, or-none, above-from, above-set}
 use Rattle.endlaws.proofs.Done.{after-keeps}
 use Rattle.endlaws.proofs.Shapes.{placed-keeps, counted-keeps, entersNow, reset-shaped, after-shaped}
-
-pub record Limits (p c : ℕ) (sent collected : List ℕ) (h l q n m : ℕ) : Type 0 where
-  pub position : p ≤ 11
-  pub count : c ≤ 11
-  pub sending : above 511 sent ≡ false
-  pub collecting : above 511 collected ≡ false
-  pub health : h ≤ 3
-  pub loaded : l ≤ 3
-  pub partner : q ≤ 3
-  pub number : n ≤ 15
-  pub got : m ≤ 15
-
-abbrev pub Good : End → Type 0
-Good e =
-    Limits (e .sender .position) (e .collector .count) (e .sender .symbols) (e .collector .symbols)
-    (e .sender .health) (e .sender .loaded) (e .heard .health) (e .outbox .number) (e .inbox .number)
-
-pub good : (e : End) → bad e ≡ false → Good e
-unfolding bad
-good e h =
-    let a = or-no _ _ h in
-    let b = or-no _ _ (a .1) in
-    let c = or-no _ _ (b .1) in
-    let d = or-no _ _ (c .1) in
-    let f = or-no _ _ (d .1) in
-    let g = or-no _ _ (f .1) in
-    let i = or-no _ _ (g .1) in
-    let j = or-no _ _ (i .1) in
-    record {
-      position = ltb-false _ _ (a .0);
-      count = ltb-false _ _ (b .0);
-      sending = c .0;
-      collecting = d .0;
-      health = ltb-false _ _ (f .0);
-      loaded = ltb-false _ _ (g .0);
-      partner = ltb-false _ _ (i .0);
-      number = ltb-false _ _ (j .0);
-      got = ltb-false _ _ (j .1);
-    }
 
 pub good-not : (e : End) → Good e → bad e ≡ false
 unfolding bad

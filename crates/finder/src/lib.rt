@@ -7,9 +7,6 @@ ghost use Rattle.finder.specs.Finder.{findOf, stretchOf};
 // The longest list that is searched.
 const LIMIT: usize = 4096;
 
-// How many symbols a frame has.
-const SYMBOLS: usize = 12;
-
 // The answer to a search, and the place of what was found: 0 on refusal.
 pub struct Found {
     pub answer: Answer,
@@ -35,9 +32,9 @@ pub fn place(list: &[u16]) -> Found
     let mut symbols = [0u16; 12];
     let mut at = 0;
     let mut found = false;
-    'places: while at + SYMBOLS <= list.len() {
+    'places: while at + frame::SYMBOLS <= list.len() {
         let mut k = 0;
-        while k < SYMBOLS {
+        while k < frame::SYMBOLS {
             let symbol = list[at + k];
             if frame::right_at(symbol, k) {
                 symbols[k] = symbol;
@@ -76,7 +73,7 @@ pub fn find(list: &[u16]) -> &[u16]
     let at = found.place;
     let answer = found.answer;
     if answer::number(answer) == 0 {
-        &list[at..at + SYMBOLS]
+        &list[at..at + frame::SYMBOLS]
     } else {
         &list[0..0]
     }

@@ -8,16 +8,16 @@ ghost use Rattle.frame.specs.Check.{rightAt, someAbove, checkOf};
 ghost use Rattle.frame.specs.Frame.{crcOf, dataOf, evenSymbol, oddSymbol, build as buildOf, crcRight};
 
 // How many symbols a frame has.
-const SYMBOLS: usize = 12;
+pub const SYMBOLS: usize = 12;
 
 // How many data bytes it is built from.
 const BYTES: usize = 10;
 
 // The largest number that is a received symbol.
-const LARGEST: u16 = 1023;
+pub const LARGEST: u16 = 1023;
 
 // A symbol from here on is marked.
-const MARKED: u16 = 512;
+pub const MARKED: u16 = 512;
 
 // Whether the nine bits of a symbol have an odd number of ones.
 pub fn parity(symbol: u16) -> bool

@@ -4,16 +4,17 @@
 --   Cell       a frame and a place in it
 --   cellAt, frameAt   the cell of i slots ago; before the first one a cell that says nothing
 --   rank f     twice the acknowledged count, and one more for Valid: it never falls along a line
---   Stream     the cells that an end has sent: symbols, places, frames in order
+--   Line       the cells of a line: whole frames, place after place, in order
+--   Sender     a sender's position and symbols, and what it sent, are those of its line
+--   line-push  one cell more
 -- Assumes nothing.
 use Prim.Native.Nat.{ℕ, zero, suc, _+_, _*_, _%_, _≤_, _<_}
-use mathlib.Core.List.{List, [], _∷_, map}
-use mathlib.Core.Path.{_≡_, refl}
+use mathlib.Core.List.{List, _∷_, map}
+use mathlib.Core.Path.{_≡_}
 use native.Mathlib.Nat.{le-refl, le-trans}
 use native.Mathlib.Omega.{arith}
 use lib.ListN.{length, getD, replicate}
 use Rattle.frame.specs.Frame.{build}
-use Rattle.end.specs.declared.End.{End}
 use Rattle.protocol.specs.Steps.{num}
 use Rattle.link.proofs.Words.{said}
 
@@ -41,10 +42,7 @@ rank f = 2 * f .acked + num (said (f .ten) .valid)
 abbrev pub symbolIn : Cell → ℕ
 symbolIn c = getD (build (c .frame .ten)) (c .place) 0
 
-pub record Stream (e : End) (sent : List ℕ) (cs : List Cell) : Type 0 where
-  pub symbols : sent ≡ map symbolIn cs
-  pub position : e .sender .position ≡ length cs % 12
-  pub current : 0 < e .sender .position → e .sender .symbols ≡ build (frameAt cs 0 .ten)
+pub record Line (cs : List Cell) : Type 0 where
   pub ten : (i : ℕ) → length (frameAt cs i .ten) ≡ 10
   pub within : (i : ℕ) → cellAt cs i .place < 12
   pub places : (i : ℕ) → i < length cs → (cellAt cs i .place + (i + 1)) % 12 ≡ length cs % 12
@@ -52,7 +50,48 @@ pub record Stream (e : End) (sent : List ℕ) (cs : List Cell) : Type 0 where
   pub ranks : (i : ℕ) → rank (frameAt cs (suc i)) ≤ rank (frameAt cs i)
   pub answers : (i : ℕ) → frameAt cs (suc i) .entered ≤ frameAt cs i .entered
 
+pub record Sender (p : ℕ) (l sent : List ℕ) (cs : List Cell) : Type 0 where
+  pub position : p ≡ length cs % 12
+  pub current : 0 < p → l ≡ build (frameAt cs 0 .ten)
+  pub symbols : sent ≡ map symbolIn cs
+
 -- what never rises with age is at most what it is now
 pub falls : (f : ℕ → ℕ) → ((i : ℕ) → f (suc i) ≤ f i) → (i : ℕ) → f i ≤ f 0
 falls f h zero = le-refl (f 0)
 falls f h (suc i) = le-trans (h i) (falls f h i)
+
+pub line-push : {cs : List Cell} → Line cs → (c : Cell) → c .place ≡ length cs % 12 → length (c .frame .ten) ≡ 10
+    → (0 < c .place → frameAt cs 0 ≡ c .frame) → rank (frameAt cs 0) ≤ rank (c .frame)
+    → frameAt cs 0 .entered ≤ c .frame .entered → Line (c ∷ cs)
+line-push {cs} line c at long same ranks answers = record {
+  ten = tens;
+  within = withins;
+  places = at-places;
+  same = sames;
+  ranks = all-ranks;
+  answers = all-answers;
+}
+  where
+    tens : (i : ℕ) → length (frameAt (c ∷ cs) i .ten) ≡ 10
+    tens zero = long
+    tens (suc i) = line .ten i
+
+    withins : (i : ℕ) → cellAt (c ∷ cs) i .place < 12
+    withins zero = omega arith
+    withins (suc i) = line .within i
+
+    at-places : (i : ℕ) → i < length (c ∷ cs) → (cellAt (c ∷ cs) i .place + (i + 1)) % 12 ≡ length (c ∷ cs) % 12
+    at-places zero h = omega arith
+    at-places (suc i) h = let p : i < length cs = omega arith in omega (arith, line .places i p)
+
+    sames : (i : ℕ) → 0 < cellAt (c ∷ cs) i .place → frameAt (c ∷ cs) (suc i) ≡ frameAt (c ∷ cs) i
+    sames zero h = same h
+    sames (suc i) h = line .same i h
+
+    all-ranks : (i : ℕ) → rank (frameAt (c ∷ cs) (suc i)) ≤ rank (frameAt (c ∷ cs) i)
+    all-ranks zero = ranks
+    all-ranks (suc i) = line .ranks i
+
+    all-answers : (i : ℕ) → frameAt (c ∷ cs) (suc i) .entered ≤ frameAt (c ∷ cs) i .entered
+    all-answers zero = answers
+    all-answers (suc i) = line .answers i

@@ -1,26 +1,27 @@
--- A collection on a line: one symbol more of what the partner sent, marked or not, keeps it in step with the line, and a frame
--- is accepted only whole.
+-- A collection on a line: one symbol more of what the partner sent, marked or not, keeps it in step with the line, and
+-- a frame is accepted only whole. The argument is the crate protocol's, over a built frame's symbols.
 --   Sync c x     the collection c is empty, or it has the frame of the cell x, the last that arrived, up to its place
 --   Next x y     y is sent after x: the same frame's next place, or place 0
+--   line-next    each cell of a line is next to the one before it
 --   Took s c y   what taking the symbol s of the cell y does to the collection c
 -- Assumes nothing.
 use Prim.Native.Nat.{ℕ, zero, suc, _+_, _%_, _≤_, _<_}
-use mathlib.Core.Bool.{Bool, true, false, _&&_, false≢true}
+use mathlib.Core.Bool.{Bool, true, false, false≢true}
 use mathlib.Core.List.{List}
 use mathlib.Core.Path.{_≡_, refl, sym, ap, _∙_}
 use native.Mathlib.Omega.{arith}
-use lib.Dec.{eqb}
-use lib.ListN.{length, getD}
-use borrow.Author.Tests.{eq-eqb, ne-eqb, lt-leb}
-use Rattle.frame.specs.Frame.{build, marked, even, crcRight}
+use lib.Dec.{eqb, ltb}
+use lib.ListN.{length}
+use borrow.Author.Tests.{ne-eqb, lt-leb, ltb-true, ltb-false}
+use Rattle.frame.specs.Frame.{build, marked, even}
 use Rattle.frame.proofs.FrameLaws.{build-length, build-below, build-first, build-rest, build-crc}
 use Rattle.end.specs.declared.Collector.{Collector}
-use Rattle.end.specs.Taking.{completes, placed, counted, collected, accepts}
+use Rattle.end.specs.Taking.{placed, counted, collected, accepts}
 use Rattle.endlaws.proofs.Base.{and-both}
 use Rattle.protocol.specs.Steps as steps
-use Rattle.protocol.proofs.Collects.{Begins, marked-begins}
 use Rattle.protocol.proofs.Collects as collects
-use Rattle.link.proofs.Cells.{Frame, Cell, symbolIn}
+use Rattle.protocol.proofs.Collects.{Begins, Comes, marked-begins}
+use Rattle.link.proofs.Cells.{Frame, Cell, cellAt, symbolIn, Line}
 
 abbrev pub Sync : Collector → Cell → Type 0
 Sync c x = Begins (build (x .frame .ten)) (x .place) (c .symbols) (c .count)
@@ -30,6 +31,22 @@ pub record Next (x y : Cell) : Type 0 where
   pub place : 0 < y .place → x .place + 1 ≡ y .place
   pub within : y .place < 12
   pub ten : length (y .frame .ten) ≡ 10
+
+pub line-next : {cs : List Cell} → Line cs → (d : ℕ) → d < length cs → Next (cellAt cs (suc d)) (cellAt cs d)
+line-next {cs} line d h = record {
+  frame = line .same d;
+  place = λ p. later p (line .places d h) (line .within d) (line .within (suc d)) (line .places (suc d));
+  within = line .within d;
+  ten = line .ten d;
+}
+  where
+    later : {p q : ℕ} → 0 < q → (q + (d + 1)) % 12 ≡ length cs % 12 → q < 12 → p < 12
+        → (suc d < length cs → (p + (suc d + 1)) % 12 ≡ length cs % 12) → p + 1 ≡ q
+    later {p} {q} some at w w′ f = go (ltb (suc d) (length cs)) refl
+      where
+        go : (b : Bool) → ltb (suc d) (length cs) ≡ b → p + 1 ≡ q
+        go true t = let g = f (ltb-true (suc d) (length cs) t) in omega arith
+        go false t = let g = ltb-false (suc d) (length cs) t in omega arith
 
 pub record Took (s : ℕ) (c : Collector) (y : Cell) : Type 0 where
   pub sync : Sync (collected s c) y
@@ -41,13 +58,8 @@ marked-took s c y m = record {
   whole = rw m λ h. absurd (false≢true h);
 }
 
-module _ (c : Collector) (x y : Cell) (twelve : length (c .symbols) ≡ 12) (upto : c .count ≤ 11) (sync : Sync c x) (next : Next x y) where
-  abbrev s : ℕ
-  s = symbolIn y
-
-  abbrev t : List ℕ
-  t = build (y .frame .ten)
-
+module _ (c : Collector) (x y : Cell) (twelve : length (c .symbols) ≡ 12) (upto : c .count ≤ 11) (sync : Sync c x)
+    (next : Next x y) where
   unmarked : marked (symbolIn y) ≡ false
   unmarked = lt-leb 512 (symbolIn y) (build-below (y .frame .ten) (y .place))
 
@@ -56,30 +68,37 @@ module _ (c : Collector) (x y : Cell) (twelve : length (c .symbols) ≡ 12) (upt
     where
       go : (q : ℕ) → y .place ≡ q → eqb (y .place) 0 ≡ even (symbolIn y)
       go zero z = rw z (sym (build-first (y .frame .ten) (next .ten)))
-      go (suc q) z = ne-eqb (y .place) 0 (λ e. omega arith) ∙ sym (build-rest (y .frame .ten) (y .place) (next .ten) (omega arith) (next .within))
+      go (suc q) z =
+          ne-eqb (y .place) 0 (λ e. omega arith)
+          ∙ sym (build-rest (y .frame .ten) (y .place) (next .ten) (omega arith) (next .within))
 
-  frames : 0 < y .place → build (x .frame .ten) ≡ build (y .frame .ten)
-  frames h = ap (λ (f : Frame). build (f .ten)) (next .frame h)
+  comes : Comes (build (x .frame .ten)) (x .place) (build (y .frame .ten)) (y .place) (c .symbols) (c .count)
+  comes = record {
+    before = sync;
+    same = λ h. ap (λ (f : Frame). build (f .ten)) (next .frame h);
+    next = next .place;
+    within = next .within;
+    frame = build-length (y .frame .ten) (next .ten);
+    room = twelve;
+    count = upto;
+  }
 
-  long : length (build (y .frame .ten)) ≡ 12
-  long = build-length (y .frame .ten) (next .ten)
+  abbrev s : ℕ
+  s = symbolIn y
 
-  -- the protocol's law on this collection
-  begins : Begins t (y .place) (steps.placed false (even s) s (c .symbols) (c .count)) (steps.counted false (even s) (c .count))
-  begins = collects.sound-begins 0 (build (x .frame .ten)) t (c .symbols) (x .place) (y .place) (c .count) twelve long upto sync frames (next .place) (next .within) (even s) parity
-
-  whole : steps.completes false (even s) (c .count) ≡ true → steps.placed false (even s) s (c .symbols) (c .count) ≡ t
-  whole = collects.sound-whole 0 (build (x .frame .ten)) t (c .symbols) (x .place) (y .place) (c .count) twelve long upto sync frames (next .place) (next .within) (even s) parity
+  whole : steps.completes false (even s) (c .count) ≡ true
+      → steps.placed false (even s) s (c .symbols) (c .count) ≡ build (y .frame .ten)
+  whole = collects.sound-whole 0 comes (even s) parity
 
   pub sound-took : Took (symbolIn y) c y
   sound-took = record {
-    sync = rw unmarked begins;
+    sync = rw unmarked (collects.sound-begins 0 comes (even s) parity);
     whole = rw unmarked λ h. whole (and-both _ _ h .0);
   }
 
   -- a collection that has all of the frame so far has the next symbol too; with the last one the frame is accepted
   pub sound-counted : (0 < y .place → c .count ≡ y .place) → counted (symbolIn y) c ≡ (y .place + 1) % 12
-  sound-counted all = rw unmarked (collects.sound-counted 0 (build (x .frame .ten)) t (c .symbols) (x .place) (y .place) (c .count) twelve long upto sync frames (next .place) (next .within) (even s) parity all)
+  sound-counted all = rw unmarked (collects.sound-counted 0 comes (even s) parity all)
 
   pub sound-accepts : y .place ≡ 11 → c .count ≡ 11 → accepts (symbolIn y) c ≡ true
   sound-accepts z k = rw unmarked (rw (whole done, done) (build-crc (y .frame .ten) (next .ten)))

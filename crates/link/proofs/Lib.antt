@@ -3,9 +3,9 @@ pub mod Words
 pub mod Cells
 pub mod Collecting
 pub mod Way
+pub mod Inv
 pub mod Sent
 pub mod Making
-pub mod Inv
 pub mod SendStep
 pub mod Logs
 pub mod Filled

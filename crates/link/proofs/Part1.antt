@@ -1,9 +1,9 @@
 -- Demand 3, first part: accepted = taken ++ far register ++ in the sender and not yet entered ++ pending.
 --   nothing-lost   after every run, each way
 -- Assumes nothing.
-use Prim.Native.Nat.{ℕ, zero, suc, _+_, _≤_, _<_}
-use mathlib.Core.Bool.{Bool, true, false, cond, true≢false, false≢true}
-use mathlib.Core.List.{List, [], _∷_, _++_, append-assoc, append-nil}
+use Prim.Native.Nat.{ℕ, _+_, _≤_, _<_}
+use mathlib.Core.Bool.{Bool, true, false}
+use mathlib.Core.List.{List, _∷_, [], _++_, append-assoc, append-nil}
 use mathlib.Core.Path.{_≡_, refl, sym, ap, _∙_, subst}
 use native.Mathlib.Nat.{add-zero}
 use native.Mathlib.Numerals.{add-one}
@@ -13,103 +13,110 @@ use lib.ListN.{length, getD, take, length-append}
 use lib.Seq.{take-suc, take-all}
 use borrow.Author.Tests.{ltb-true, ltb-false}
 use Rattle.protocol.specs.Steps.{num}
-use Rattle.protocol.proofs.Keeps.{num-le, pending-below}
-use Rattle.link.specs.Link.{Message, Side, World, Event, messageOut, messageIn, start, run, ruled}
-use Rattle.link.specs.Demand.{held, pendingIn, messageSent, senderHolds, registerHolds, InTurn, most, Few, NothingLost}
-use Rattle.link.proofs.Cells.{Cell, frameAt, rank}
-use Rattle.link.proofs.Way.{nothing, outOf, Way}
+use Rattle.protocol.proofs.Keeps.{pending-below}
+use Rattle.link.specs.Link.{Message, Side, World, messageIn, start, run}
+use Rattle.link.specs.Demand.{place, pendingIn, messageSent, senderHolds, registerHolds, most, InTurn}
+use Rattle.link.specs.Demand.{Direction, aToB, bToA, near, far, NothingLost}
+use Rattle.link.proofs.Cells.{Cell}
+use Rattle.link.proofs.Way.{nothing}
 use Rattle.link.proofs.Inv.{Inv, exchanged, acknowledged-entered, loaded-next}
 use Rattle.link.proofs.Runs.{Kept, start-kept, run-kept}
 
 -- the first n of acc, and one more where b
-take-held : (acc : List Message) (n : ℕ) (b : Bool) (m : Message) → (b ≡ true → (n < length acc) × (getD acc n nothing ≡ m)) → take n acc ++ held b m ≡ take (n + num b) acc
-take-held acc n true m h =
+take-place : (acc : List Message) (n : ℕ) (b : Bool) (m : Message)
+    → (b ≡ true → (n < length acc) × (getD acc n nothing ≡ m)) → take n acc ++ place b m ≡ take (n + num b) acc
+take-place acc n true m h =
     ap (λ (x : Message). take n acc ++ (x ∷ [])) (sym (h refl .1))
     ∙ sym (take-suc acc n nothing (h refl .0))
     ∙ ap (λ (k : ℕ). take k acc) (sym (add-one n))
-take-held acc n false m h = append-nil (take n acc) ∙ ap (λ (k : ℕ). take k acc) (sym (add-zero n))
+take-place acc n false m h = append-nil (take n acc) ∙ ap (λ (k : ℕ). take k acc) (sym (add-zero n))
 
-module _ {near far : Side} {cn cf : List Cell} {D E he : ℕ} (w : Way near far cn cf D E he)
-    (ranks : (i : ℕ) → rank (frameAt cn (suc i)) ≤ rank (frameAt cn i))
-    (answers : (i : ℕ) → frameAt cf (suc i) .entered ≤ frameAt cf i .entered) where
+-- each place holds at most one
+place-length : (b : Bool) (m : Message) → length (place b m) ≤ 1
+place-length true m = omega arith
+place-length false m = omega arith
+
+module _ {a b : Side} {ca cb : List Cell} {D E pa pb : ℕ} (v : Inv a b ca cb D E pa pb) where
   abbrev acc : List Message
-  acc = near .accepted
+  acc = a .accepted
 
   abbrev ent : ℕ
-  ent = length (far .entered)
+  ent = length (b .entered)
 
-  count : length acc ≡ near .loaded + num (near .end .outbox .pending)
-  count = w .holding .sending .accepted
+  abbrev tk : ℕ
+  tk = length (b .taken)
 
-  full-there : far .end .inbox .full ≡ true → (length (far .taken) < length acc) × (getD acc (length (far .taken)) nothing ≡ messageIn (far .end))
-  full-there q = (below (ap num q) (w .filling .receiving .taken) (w .order) count, w .filling .register q)
+  count : length acc ≡ a .loaded + num (a .end .outbox .pending)
+  count = v .ab .holding .sending .accepted
+
+  full-there : b .end .inbox .full ≡ true → (tk < length acc) × (getD acc tk nothing ≡ messageIn (b .end))
+  full-there q = (below (ap num q) (v .ab .filling .receiving .taken) (v .ab .order), v .ab .filling .register q)
     where
-      below : num (far .end .inbox .full) ≡ 1 → ent ≡ length (far .taken) + num (far .end .inbox .full) → ent ≤ near .loaded → length acc ≡ near .loaded + num (near .end .outbox .pending) → length (far .taken) < length acc
-      below a b c d = omega arith
+      below : {f : ℕ} → f ≡ 1 → ent ≡ tk + f → ent ≤ a .loaded → tk < length acc
+      below e f g = omega (arith, count)
 
   -- a message that was loaded and has not entered is the one in the sender
-  sender-there : ltb ent (near .loaded) ≡ true → (ent < length acc) × (getD acc ent nothing ≡ messageSent (near .end))
-  sender-there q = go (near .end .sender .ready) refl (w .holding .sending .loaded)
+  sender-there : ltb ent (a .loaded) ≡ true → (ent < length acc) × (getD acc ent nothing ≡ messageSent (a .end))
+  sender-there q = go (a .end .sender .ready) refl (v .ab .holding .sending .loaded)
     where
-      less : ent < near .loaded
-      less = ltb-true ent (near .loaded) q
+      less : ent < a .loaded
+      less = ltb-true ent (a .loaded) q
 
-      from : near .acknowledged ≤ ent
-      from = acknowledged-entered w ranks answers
-
-      go : (r : Bool) → near .end .sender .ready ≡ r → near .loaded + num r ≡ near .acknowledged + 1 → (ent < length acc) × (getD acc ent nothing ≡ messageSent (near .end))
-      go true e l = absurd (omega (arith, less, from))
+      go : (r : Bool) → a .end .sender .ready ≡ r → a .loaded + num r ≡ a .acknowledged + 1
+          → (ent < length acc) × (getD acc ent nothing ≡ messageSent (a .end))
+      go true e l = absurd (omega (arith, less, acknowledged-entered v))
       go false e l =
-          let same : ent ≡ near .acknowledged = omega (arith, less, from) in
-          (omega (arith, count, less), ap (λ (n : ℕ). getD acc n nothing) same ∙ w .holding .sent e)
+          let same : ent ≡ a .acknowledged = omega (arith, less, acknowledged-entered v) in
+          (omega (arith, count, less), ap (λ (n : ℕ). getD acc n nothing) same ∙ v .ab .holding .sent e)
 
-  loaded-is : ent + num (ltb ent (near .loaded)) ≡ near .loaded
-  loaded-is = go (ltb ent (near .loaded)) refl
+  loaded-is : ent + num (ltb ent (a .loaded)) ≡ a .loaded
+  loaded-is = go (ltb ent (a .loaded)) refl (acknowledged-entered v) (loaded-next v) (v .ab .order)
     where
-      from : near .acknowledged ≤ ent
-      from = acknowledged-entered w ranks answers
+      go : (t : Bool) → ltb ent (a .loaded) ≡ t → a .acknowledged ≤ ent → a .loaded ≤ a .acknowledged + 1
+          → ent ≤ a .loaded → ent + num t ≡ a .loaded
+      go true t from next order = omega (arith, ltb-true ent (a .loaded) t)
+      go false t from next order = omega (arith, ltb-false ent (a .loaded) t)
 
-      next : near .loaded ≤ near .acknowledged + 1
-      next = loaded-next w
+  register : b .taken ++ registerHolds b ≡ take ent acc
+  register =
+      ap (λ (l : List Message). l ++ registerHolds b) (v .ab .filling .taken-is)
+      ∙ take-place acc tk _ _ full-there
+      ∙ ap (λ (n : ℕ). take n acc) (sym (v .ab .filling .receiving .taken))
 
-      order : ent ≤ near .loaded
-      order = w .order
+  sender : take ent acc ++ senderHolds a b ≡ take (a .loaded) acc
+  sender = take-place acc ent _ _ sender-there ∙ ap (λ (n : ℕ). take n acc) loaded-is
 
-      go : (b : Bool) → ltb ent (near .loaded) ≡ b → ent + num b ≡ near .loaded
-      go true t = omega (arith, ltb-true ent (near .loaded) t, from, next, order)
-      go false t = omega (arith, ltb-false ent (near .loaded) t, from, next, order)
-
-  in-turn : InTurn near far
-  in-turn = sym (
-      sym (append-assoc (far .taken) (registerHolds far) _)
-      ∙ ap (λ (l : List Message). l ++ (senderHolds near far ++ pendingIn near)) register
-      ∙ sym (append-assoc (take ent acc) (senderHolds near far) (pendingIn near))
-      ∙ ap (λ (l : List Message). l ++ pendingIn near) sender
-      ∙ take-held acc (near .loaded) _ _ (λ q. (pending-below _ _ _ (outOf (near .end)) (w .holding .sending) q, w .holding .pending q))
+  pending : take (a .loaded) acc ++ pendingIn a ≡ acc
+  pending =
+      take-place acc (a .loaded) _ _ (λ q. (pending-below (v .ab .holding .sending) q, v .ab .holding .pending q))
       ∙ ap (λ (n : ℕ). take n acc) (sym count)
-      ∙ take-all (length acc) acc (omega arith))
-    where
-      register : far .taken ++ registerHolds far ≡ take ent acc
-      register =
-          ap (λ (l : List Message). l ++ registerHolds far) (w .filling .taken-is)
-          ∙ take-held acc (length (far .taken)) _ _ full-there
-          ∙ ap (λ (n : ℕ). take n acc) (sym (w .filling .receiving .taken))
+      ∙ take-all (length acc) acc (omega arith)
 
-      sender : take ent acc ++ senderHolds near far ≡ take (near .loaded) acc
-      sender = take-held acc ent _ _ sender-there ∙ ap (λ (n : ℕ). take n acc) loaded-is
-
-  few : Few near far
-  few = three (w .filling .receiving .taken) loaded-is count (num-le (far .end .inbox .full)) (num-le (ltb ent (near .loaded))) (num-le (near .end .outbox .pending))
+  in-turn : InTurn a b
+  in-turn = record {
+    whole =
+        sym (sym (append-assoc (b .taken) (registerHolds b) (senderHolds a b ++ pendingIn a))
+        ∙ ap (λ (l : List Message). l ++ (senderHolds a b ++ pendingIn a)) register
+        ∙ sym (append-assoc (take ent acc) (senderHolds a b) (pendingIn a))
+        ∙ ap (λ (l : List Message). l ++ pendingIn a) sender
+        ∙ pending);
+    few =
+        three (length-append (registerHolds b) (senderHolds a b ++ pendingIn a))
+        (length-append (senderHolds a b) (pendingIn a)) (place-length (b .end .inbox .full) _)
+        (place-length (ltb ent (a .loaded)) _) (place-length (a .end .outbox .pending) _);
+    entered = v .ab .filling .entered-is ∙ sym register;
+    acknowledged = acknowledged-entered v;
+  }
     where
-      three : {f s p : ℕ} → ent ≡ length (far .taken) + f → ent + s ≡ near .loaded → length acc ≡ near .loaded + p → f ≤ 1 → s ≤ 1 → p ≤ 1 → length acc ≤ length (far .taken) + most
-      three a b c d e f = omega arith
+      three : {x y r s p : ℕ} → x ≡ r + y → y ≡ s + p → r ≤ 1 → s ≤ 1 → p ≤ 1 → x ≤ most
+      three e f g h k = omega arith
 
 pub nothing-lost : NothingLost
-nothing-lost D E es q =
-    let k = run-kept D E es start q (start-kept D E) in
-    let v = k .inv in (
-      in-turn (v .ab) (v .fit-a .stream .ranks) (v .fit-b .stream .answers),
-      in-turn (v .ba) (v .fit-b .stream .ranks) (v .fit-a .stream .answers),
-      few (v .ab) (v .fit-a .stream .ranks) (v .fit-b .stream .answers),
-      few (v .ba) (v .fit-b .stream .ranks) (v .fit-a .stream .answers),
-    )
+nothing-lost d D E es q w is = subst (λ (w : World). InTurn (near d w) (far d w)) (sym is) (go d)
+  where
+    k : Kept D E (run D E es start)
+    k = run-kept D E es start q (start-kept D E)
+
+    go : (d : Direction) → InTurn (near d (run D E es start)) (far d (run D E es start))
+    go aToB = in-turn (k .inv)
+    go bToA = in-turn (exchanged (k .inv))

@@ -1,14 +1,15 @@
--- Progress of message k of a, while nothing that arrives is marked. Slots are counted from the start of the run; the message was
--- accepted when n₀ had passed.
---   Schedule    t₁: a's next frame start; t₂: the first frame start of b at which the message has entered; t₃: the first of a
---               at which its acknowledgement has come
+-- Progress of message k of a, while nothing that arrives is marked. Slots are counted from the start of the run; the
+-- message was accepted when n₀ had passed.
+--   Schedule    t₁: a's next frame start; t₂: the first frame start of b at which the message has entered; t₃: the
+--               first of a at which its acknowledgement has come
+--   InStep      a collection misses nothing of the frame whose place 0 came since slot n₀
 --   Prog        what has happened by now, n slots having passed
 --   host-a, host-b    a host's call changes nothing of it
 -- Assumes nothing.
-use Prim.Native.Nat.{ℕ, zero, suc, _+_, _*_, _%_, _≤_, _<_}
+use Prim.Native.Nat.{ℕ, _+_, _*_, _%_, _≤_, _<_}
 use mathlib.Core.Bool.{Bool, true, false, cond}
 use mathlib.Core.List.{List, [], _∷_, _++_}
-use mathlib.Core.Path.{_≡_, refl, sym, ap, _∙_, subst}
+use mathlib.Core.Path.{_≡_, refl, ap, _∙_}
 use native.Mathlib.Nat.{le-refl, le-trans}
 use native.Mathlib.Omega.{arith}
 use lib.Dec.{eqb}
@@ -18,7 +19,8 @@ use Rattle.end.specs.declared.Collector.{Collector}
 use Rattle.end.specs.Registers.{readOf, writeOf}
 use Rattle.endlaws.specs.Calls.{after}
 use Rattle.endlaws.proofs.Left.{read-leaves, write-leaves, health-leaves}
-use Rattle.link.specs.Link.{Message, Side, Access, read, write, health, present, callOf, hosted, acceptsNow, messageOut, messageRead}
+use Rattle.link.specs.Link.{Message, Side, Access, read, write, health, present, callOf, hosted, acceptsNow}
+use Rattle.link.specs.Link.{messageOut, messageRead}
 use Rattle.link.proofs.Cells.{Cell, cellAt, frameAt, rank}
 use Rattle.link.proofs.Logs.{length-more}
 use Rattle.link.proofs.Way.{nothing}
@@ -31,7 +33,6 @@ pub record Schedule (n₀ D E t₁ t₂ t₃ : ℕ) : Type 0 where
   pub start₂ : t₂ % 12 ≡ 0
   pub start₃ : t₃ % 12 ≡ 0
 
--- a collection in step with the line since slot n₀: it has all of the frame whose place 0 came since then
 abbrev pub InStep : Collector → List Cell → ℕ → ℕ → ℕ → Type 0
 InStep c cs d n₀ n = d < n → cellAt cs d .place + n₀ < n → c .count ≡ (cellAt cs d .place + 1) % 12
 
@@ -60,21 +61,21 @@ pub longer : (b : Bool) (l : List Message) (m : Message) → length l ≤ length
 longer true l m = omega (arith, length-more l m)
 longer false l m = le-refl _
 
-accepted-longer : (c : Access) (s : Side) → length (s .accepted) ≤ length (hosted c s .accepted)
-accepted-longer (read r) s = le-refl _
-accepted-longer (write r v h) s = longer (acceptsNow r v (s .end)) (s .accepted) (messageOut (writeOf (s .end) r v .end))
-accepted-longer (health h) s = le-refl _
-accepted-longer present s = le-refl _
-
-same-at : (b : Bool) (l : List Message) (m : Message) (i : ℕ) → i < length l → getD (cond b (l ++ (m ∷ [])) l) i nothing ≡ getD l i nothing
+same-at : (b : Bool) (l : List Message) (m : Message) (i : ℕ) → i < length l
+    → getD (cond b (l ++ (m ∷ [])) l) i nothing ≡ getD l i nothing
 same-at true l m i h = List·getD-append l (m ∷ []) nothing i h
 same-at false l m i h = refl
 
-accepted-same : (c : Access) (s : Side) (i : ℕ) → i < length (s .accepted) → getD (hosted c s .accepted) i nothing ≡ getD (s .accepted) i nothing
-accepted-same (read r) s i h = refl
-accepted-same (write r v g) s i h = same-at (acceptsNow r v (s .end)) (s .accepted) (messageOut (writeOf (s .end) r v .end)) i h
-accepted-same (health n) s i h = refl
-accepted-same present s i h = refl
+-- message i stays accepted
+accepted-stays : (c : Access) (s : Side) (i : ℕ) → i < length (s .accepted)
+    → (i < length (hosted c s .accepted)) × (getD (hosted c s .accepted) i nothing ≡ getD (s .accepted) i nothing)
+accepted-stays (read r) s i h = (h, refl)
+accepted-stays (write r v g) s i h =
+    let m = messageOut (writeOf (s .end) r v .end) in
+    let t = acceptsNow r v (s .end) in
+    (le-trans h (longer t (s .accepted) m), same-at t (s .accepted) m i h)
+accepted-stays (health n) s i h = (h, refl)
+accepted-stays present s i h = (h, refl)
 
 taken-longer : (c : Access) (s : Side) → length (s .taken) ≤ length (hosted c s .taken)
 taken-longer (read r) s = longer (eqb r 2317) (s .taken) (messageRead (s .host) (readOf (s .end) r .value))
@@ -82,12 +83,13 @@ taken-longer (write r v h) s = le-refl _
 taken-longer (health h) s = le-refl _
 taken-longer present s = le-refl _
 
-module _ {a b : Side} {ca cb : List Cell} {D E pa k n₀ t₁ t₂ t₃ n : ℕ} {m : Message} (g : Prog a b ca cb D E pa k n₀ t₁ t₂ t₃ n m) (c : Access) where
+module _ {a b : Side} {ca cb : List Cell} {D E pa k n₀ t₁ t₂ t₃ n : ℕ} {m : Message}
+    (g : Prog a b ca cb D E pa k n₀ t₁ t₂ t₃ n m) (c : Access) where
   pub host-a : Prog (hosted c a) b ca cb D E pa k n₀ t₁ t₂ t₃ n m
   host-a = record {
     acked = g .acked;
-    accepted = le-trans (g .accepted) (accepted-longer c a);
-    message = accepted-same c a k (g .accepted) ∙ g .message;
+    accepted = accepted-stays c a k (g .accepted) .0;
+    message = accepted-stays c a k (g .accepted) .1 ∙ g .message;
     taken = g .taken;
     loaded = g .loaded;
     ranks = g .ranks;

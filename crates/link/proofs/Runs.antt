@@ -1,29 +1,36 @@
 -- The invariant holds after every run.
+--   host-kept    after a host's call by the rule
 --   Kept D E w   the world w has the invariant, for some cells
 --   start-kept, step-kept, run-kept
 -- Assumes nothing.
-use Prim.Native.Nat.{ℕ, zero, suc, _+_, _*_, _≤_, _<_}
-use mathlib.Core.Bool.{Bool, true, false, _&&_, false≢true, true≢false}
+use Prim.Native.Nat.{ℕ, suc, _*_, _+_}
+use mathlib.Core.Bool.{true, false, false≢true, true≢false}
 use mathlib.Core.List.{List, [], _∷_}
 use mathlib.Core.Path.{_≡_, refl, sym, ap, _∙_}
 use native.Mathlib.Nat.{le-refl}
 use native.Mathlib.Omega.{arith}
 use lib.ListN.{length, replicate}
 use Rattle.frame.specs.Bits.{odd}
-use Rattle.frame.specs.Frame.{build}
-use Rattle.end.specs.Good.{bad, resetOf}
+use Rattle.endlaws.proofs.Base.{and-both}
 use Rattle.endlaws.proofs.Shapes.{reset-shaped}
 use Rattle.endlaws.proofs.Goods.{reset-good}
 use Rattle.protocol.specs.Steps.{num}
-use Rattle.link.specs.Link.{Side, World, Access, read, write, health, present, Event, slot, atA, atB, resetSide, start, hosted, ruledCall, step, ruledStep, run, ruled}
+use Rattle.link.specs.Link.{Side, World, Access, read, write, health, present, hosted, ruledCall}
+use Rattle.link.specs.Link.{Event, slot, atA, atB, resetSide, start, step, ruledStep, run, ruled}
 use Rattle.link.proofs.Words.{said, Says, word-says}
-use Rattle.link.proofs.Cells.{Cell, none, Stream}
-use Rattle.link.proofs.Way.{Way, DataOk, AckOk}
-use Rattle.link.proofs.Making.{and-both}
+use Rattle.link.proofs.Cells.{Cell, none}
+use Rattle.link.proofs.Way.{DataOk, AckOk, Way}
 use Rattle.link.proofs.Inv.{Fit, Inv, exchanged}
-use Rattle.link.proofs.SlotStep.{slot-kept, cellOf}
+use Rattle.link.proofs.SlotStep.{cellOf, slot-kept}
 use Rattle.link.proofs.Writing.{write-kept, health-kept}
 use Rattle.link.proofs.Reading.{read-kept}
+
+pub host-kept : {a b : Side} {ca cb : List Cell} {D E pa pb : ℕ} → Inv a b ca cb D E pa pb → (c : Access)
+    → ruledCall c a ≡ true → Inv (hosted c a) b ca cb D E pa pb
+host-kept v (read r) q = read-kept v r q
+host-kept v (write r x h) q = write-kept v r x h
+host-kept v (health h) q = health-kept v h
+host-kept v present q = v
 
 pub record Kept (D E : ℕ) (w : World) : Type 0 where
   pub ca : List Cell
@@ -50,10 +57,8 @@ reset-fit : Fit resetSide [] none
 reset-fit = record {
   good = reset-good;
   shaped = reset-shaped;
-  stream = record {
-    symbols = refl;
-    position = refl;
-    current = λ h. absurd (omega arith);
+  sender = record { position = refl; current = λ h. absurd (omega arith); symbols = refl };
+  line = record {
     ten = λ i. refl;
     within = λ i. omega arith;
     places = λ i h. absurd (omega arith);
@@ -77,54 +82,46 @@ reset-way D E = record {
   filling = record {
     receiving = omega arith;
     register = λ h. absurd (false≢true h);
-    reading = record { stage = omega arith; full = λ h. absurd (omega arith); number = λ h. absurd (omega arith); bytes = λ h. absurd (omega arith) };
+    reading = record {
+      stage = omega arith;
+      full = λ h. absurd (omega arith);
+      number = λ h. absurd (omega arith);
+      bytes = λ h. absurd (omega arith);
+    };
     entered-is = refl;
     taken-is = refl;
   };
   hearing = omega arith;
   order = omega arith;
-  newest = silent-rank;
-  heard = omega arith;
-  answered = omega arith;
-  answers = omega arith;
-  frames = λ i. silent-data;
-  acks = λ i. silent-ack;
+  onward = record { newest = silent-rank; heard = omega arith; frames = λ i. silent-data };
+  back = record { newest = omega arith; heard = omega arith; frames = λ i. silent-ack };
 }
 
 pub start-kept : (D E : ℕ) → Kept D E start
-start-kept D E = record { ca = []; cb = []; pa = 0; pb = 0; slots = refl; inv = record { fit-a = reset-fit; fit-b = reset-fit; ab = reset-way D E; ba = reset-way E D } }
+start-kept D E = record {
+  ca = [];
+  cb = [];
+  pa = 0;
+  pb = 0;
+  slots = refl;
+  inv = record { fit-a = reset-fit; fit-b = reset-fit; ab = reset-way D E; ba = reset-way E D };
+}
 
-pub host-kept : (a b : Side) (ca cb : List Cell) (D E pa pb : ℕ) → Inv a b ca cb D E pa pb → (c : Access) → ruledCall c a ≡ true → Inv (hosted c a) b ca cb D E pa pb
-host-kept a b ca cb D E pa pb v (read r) q = read-kept a b ca cb D E pa pb v r q
-host-kept a b ca cb D E pa pb v (write r x h) q = write-kept a b ca cb D E pa pb v r x h
-host-kept a b ca cb D E pa pb v (health h) q = health-kept a b ca cb D E pa pb v h
-host-kept a b ca cb D E pa pb v present q = v
+-- the same cells
+with-inv : {D E : ℕ} {w x : World} (k : Kept D E w) → Inv (x .a) (x .b) (k .ca) (k .cb) D E (k .pa) (k .pb) → Kept D E x
+with-inv k v = record { ca = k .ca; cb = k .cb; pa = k .pa; pb = k .pb; slots = k .slots; inv = v }
 
-pub step-kept : (D E : ℕ) (e : Event) (w : World) → ruledStep e w ≡ true → Kept D E w → Kept D E (step D E e w)
+step-kept : (D E : ℕ) (e : Event) (w : World) → ruledStep e w ≡ true → Kept D E w → Kept D E (step D E e w)
 step-kept D E (slot ha hb) w q k = record {
   ca = cellOf (w .a) (k .ca) ∷ k .ca;
   cb = cellOf (w .b) (k .cb) ∷ k .cb;
   pa = _;
   pb = _;
   slots = ap suc (k .slots);
-  inv = slot-kept w (k .ca) (k .cb) D E (k .pa) (k .pb) ha hb (k .inv);
+  inv = slot-kept (k .inv) ha hb;
 }
-step-kept D E (atA c) w q k = record {
-  ca = k .ca;
-  cb = k .cb;
-  pa = k .pa;
-  pb = k .pb;
-  slots = k .slots;
-  inv = host-kept (w .a) (w .b) (k .ca) (k .cb) D E (k .pa) (k .pb) (k .inv) c q;
-}
-step-kept D E (atB c) w q k = record {
-  ca = k .ca;
-  cb = k .cb;
-  pa = k .pa;
-  pb = k .pb;
-  slots = k .slots;
-  inv = exchanged (host-kept (w .b) (w .a) (k .cb) (k .ca) E D (k .pb) (k .pa) (exchanged (k .inv)) c q);
-}
+step-kept D E (atA c) w q k = with-inv k (host-kept (k .inv) c q)
+step-kept D E (atB c) w q k = with-inv k (exchanged (host-kept (exchanged (k .inv)) c q))
 
 pub run-kept : (D E : ℕ) (es : List Event) (w : World) → ruled D E es w ≡ true → Kept D E w → Kept D E (run D E es w)
 unfolding run ruled

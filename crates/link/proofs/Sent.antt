@@ -1,24 +1,25 @@
--- A side sends: the next cell of its stream.
+-- A side sends: the next cell of its line.
 --   sentAs b s     the side s after its slot's sending, where b says that a new frame is made
---   made s         the frame that it makes
---   cellSent b s cs   the cell that it sends
---   stream-push    one cell more keeps a stream
+--   tenOf e        the ten bytes of the frame that an end makes
+--   made s         that frame
+--   cellSent b s cs   the cell that the side sends
+--   sender-push    the sender after it
 -- Assumes nothing.
-use Prim.Native.Nat.{ℕ, zero, suc, _+_, _*_, _%_, _≤_, _<_}
+use Prim.Native.Nat.{ℕ, suc, _+_, _%_}
 use mathlib.Core.Bool.{Bool, true, false, cond, _&&_}
-use mathlib.Core.List.{List, [], _∷_, map}
-use mathlib.Core.Path.{_≡_, refl, sym, ap, _∙_}
+use mathlib.Core.List.{List, _∷_}
+use mathlib.Core.Path.{_≡_, refl, ap}
 use native.Mathlib.Omega.{arith}
 use lib.Dec.{eqb}
-use lib.ListN.{length, getD}
-use borrow.Author.Tests.{eqb-true, eqb-false, eq-eqb, ne-eqb}
+use lib.ListN.{length}
+use borrow.Author.Tests.{eqb-true, eqb-false}
 use Rattle.frame.specs.Frame.{build}
 use Rattle.end.specs.declared.End.{End}
 use Rattle.end.specs.Good.{bad}
-use Rattle.end.specs.Sending.{acked, stepOne, loads, tenBytes, frameStart, movedOn, started, slotOf, symbolAt, sendOf}
+use Rattle.end.specs.Sending.{acked, stepOne, loads, tenBytes, movedOn, started, symbolAt}
 use Rattle.endlaws.proofs.Done.{send-good}
-use Rattle.link.specs.Link.{Side, sends, loadsNow, acksNow}
-use Rattle.link.proofs.Cells.{Frame, Cell, none, cellAt, frameAt, rank, symbolIn, Stream}
+use Rattle.link.specs.Link.{Side, sends}
+use Rattle.link.proofs.Cells.{Frame, Cell, frameAt, symbolIn, Sender}
 
 abbrev pub sentAs : Bool → Side → Side
 sentAs b s = record {
@@ -32,12 +33,16 @@ sentAs b s = record {
   taken = s .taken;
 }
 
-pub sends-as : (s : Side) (b : Bool) → bad (s .end) ≡ false → eqb (s .end .sender .position) 0 ≡ b → sends s ≡ sentAs b s
+pub sends-as : (s : Side) (b : Bool) → bad (s .end) ≡ false → eqb (s .end .sender .position) 0 ≡ b
+    → sends s ≡ sentAs b s
 sends-as s b good t = rw (send-good (s .end) good, t)
+
+abbrev pub tenOf : End → List ℕ
+tenOf e = tenBytes (acked e) (loads (stepOne (acked e) e)) (stepOne (acked e) e)
 
 abbrev pub made : Side → Frame
 made s = record {
-  ten = tenBytes (acked (s .end)) (loads (stepOne (acked (s .end)) (s .end))) (stepOne (acked (s .end)) (s .end));
+  ten = tenOf (s .end);
   acked = cond (acked (s .end)) (s .acknowledged + 1) (s .acknowledged);
   entered = length (s .entered);
 }
@@ -54,45 +59,10 @@ next-position p n e = go (eqb p 11) refl
     go true t = omega (arith, eqb-true p 11 t)
     go false t = omega (arith, eqb-false p 11 t)
 
-module _ (e : End) (sent : List ℕ) (cs : List Cell) (stream : Stream e sent cs) (c : Cell) where
-  pub stream-push : (e′ : End) → c .place ≡ e .sender .position
-      → e′ .sender .position ≡ cond (eqb (e .sender .position) 11) 0 (e .sender .position + 1)
-      → (0 < e′ .sender .position → e′ .sender .symbols ≡ build (c .frame .ten)) → length (c .frame .ten) ≡ 10
-      → (0 < c .place → frameAt cs 0 ≡ c .frame) → rank (frameAt cs 0) ≤ rank (c .frame)
-      → frameAt cs 0 .entered ≤ c .frame .entered
-      → Stream e′ (symbolIn c ∷ sent) (c ∷ cs)
-  stream-push e′ at moves holds long same ranks answers = record {
-    symbols = ap (λ (l : List ℕ). symbolIn c ∷ l) (stream .symbols);
-    position = moves ∙ next-position (e .sender .position) (length cs) (stream .position);
-    current = holds;
-    ten = tens;
-    within = withins;
-    places = at-places;
-    same = sames;
-    ranks = all-ranks;
-    answers = all-answers;
-  }
-    where
-      tens : (i : ℕ) → length (frameAt (c ∷ cs) i .ten) ≡ 10
-      tens zero = long
-      tens (suc i) = stream .ten i
-
-      withins : (i : ℕ) → cellAt (c ∷ cs) i .place < 12
-      withins zero = omega (arith, stream .position)
-      withins (suc i) = stream .within i
-
-      at-places : (i : ℕ) → i < length (c ∷ cs) → (cellAt (c ∷ cs) i .place + (i + 1)) % 12 ≡ length (c ∷ cs) % 12
-      at-places zero h = omega (arith, stream .position)
-      at-places (suc i) h = let p : i < length cs = omega arith in omega (arith, stream .places i p)
-
-      sames : (i : ℕ) → 0 < cellAt (c ∷ cs) i .place → frameAt (c ∷ cs) (suc i) ≡ frameAt (c ∷ cs) i
-      sames zero h = same h
-      sames (suc i) h = stream .same i h
-
-      all-ranks : (i : ℕ) → rank (frameAt (c ∷ cs) (suc i)) ≤ rank (frameAt (c ∷ cs) i)
-      all-ranks zero = ranks
-      all-ranks (suc i) = stream .ranks i
-
-      all-answers : (i : ℕ) → frameAt (c ∷ cs) (suc i) .entered ≤ frameAt (c ∷ cs) i .entered
-      all-answers zero = answers
-      all-answers (suc i) = stream .answers i
+pub sender-push : {p : ℕ} {l sent : List ℕ} {cs : List Cell} → Sender p l sent cs → (c : Cell) (l′ : List ℕ)
+    → l′ ≡ build (c .frame .ten) → Sender (cond (eqb p 11) 0 (p + 1)) l′ (symbolIn c ∷ sent) (c ∷ cs)
+sender-push {p} {cs = cs} s c l′ is = record {
+  position = next-position p (length cs) (s .position);
+  current = λ h. is;
+  symbols = ap (λ (l : List ℕ). symbolIn c ∷ l) (s .symbols);
+}

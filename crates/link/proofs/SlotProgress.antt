@@ -2,29 +2,27 @@
 --   slot-progress
 -- Assumes nothing.
 use Prim.Native.Nat.{ℕ, zero, suc, _+_, _*_, _%_, _≤_, _<_}
-use mathlib.Core.Bool.{Bool, true, false, cond, not, _&&_, _||_, false≢true, true≢false}
-use mathlib.Core.List.{List, [], _∷_}
+use mathlib.Core.Bool.{Bool, true, false, cond, _&&_, false≢true}
+use mathlib.Core.List.{List, _∷_}
 use mathlib.Core.Path.{_≡_, refl, sym, ap, _∙_, subst}
 use native.Mathlib.Nat.{le-refl, le-trans, le-of-eq}
 use native.Mathlib.Omega.{arith}
-use lib.Dec.{eqb, ltb, leb}
+use lib.Dec.{eqb, ltb}
 use lib.ListN.{length, getD}
-use borrow.Author.Tests.{ltb-true, ltb-false, leb-true, leb-false, eqb-true, eqb-false, eq-eqb}
+use borrow.Author.Tests.{ltb-true, ltb-false, eqb-false, eq-eqb}
 use Rattle.end.specs.declared.Collector.{Collector}
-use Rattle.end.specs.Sending.{acked, stepOne, loads}
-use Rattle.end.specs.Taking.{accepts, taken, takeOf, counted}
+use Rattle.end.specs.Taking.{accepts, takeOf}
 use Rattle.endlaws.proofs.Left.{send-leaves}
-use Rattle.link.specs.Link.{Message, Side, World, Harm, sound, mark, harmed, arrives, arrive, takes, sends, slotStep, loadsNow, acksNow, entersNow, messageIn}
-use Rattle.link.specs.Demand.{isSound}
-use Rattle.link.proofs.Cells.{Cell, cellAt, frameAt, rank, symbolIn}
+use Rattle.link.specs.Link.{Message, Side, Harm, harmed, arrives, arrive, takes, sends}
+use Rattle.link.specs.Link.{loadsNow, acksNow, entersNow, messageIn}
+use Rattle.link.proofs.Cells.{Cell, cellAt, frameAt, rank, Line}
 use Rattle.link.proofs.Way.{nothing}
-use Rattle.link.proofs.Sent.{sentAs, sends-as, made, cellSent}
 use Rattle.link.proofs.Inv.{Inv, exchanged}
-use Rattle.link.proofs.SendStep.{more, sent-kept, new-loads, acknowledged-is}
-use Rattle.link.proofs.TakeStep.{tookAs, took-entered}
-use Rattle.link.proofs.SlotStep.{cellOf, hears, harm-took}
+use Rattle.link.proofs.Sent.{sends-as, cellSent}
+use Rattle.link.proofs.SendStep.{more, new-loads, acknowledged-is}
+use Rattle.link.proofs.SlotStep.{cellOf, hears, both-sent}
 use Rattle.link.proofs.Progress.{Schedule, InStep, Prog, longer}
-use Rattle.link.proofs.Arrival.{symbol-is, does-arrive, arrive-sound, arrived-counted, arrived-accepts}
+use Rattle.link.proofs.Arrival.{Clear, arrival-step, arrival-entered, arrival-heard}
 
 -- the two ways in which a slot is reached by now
 now-or-before : (P : Type 0) (t n : ℕ) → t < suc n → (t < n → P) → (t ≡ n → P) → P
@@ -51,78 +49,55 @@ unfolding takes
 takes-longer true s x = longer (entersNow s (x .end)) (x .entered) (messageIn (takeOf (x .end) s .end))
 takes-longer false s x = le-refl _
 
--- where a symbol arrives and none that arrives is marked, it is sound
-is-sound : (h : Harm) (t : Bool) → t ≡ true → (isSound h || not t) ≡ true → h ≡ sound
-is-sound sound t e q = refl
-is-sound (mark v l m) true e q = absurd (false≢true q)
-is-sound (mark v l m) false e q = absurd (false≢true e)
+-- a frame that started in slot t has its last symbol arriving d slots and eleven more after it
+last-place : {cs : List Cell} → Line cs → (d t : ℕ) {n : ℕ} → length cs ≡ suc n → d < length cs → t % 12 ≡ 0
+    → t + 11 + d ≡ n
+    → cellAt cs d .place ≡ 11
+last-place {cs} line d t {n} long there start e = eleven (line .places d there) (line .within d)
+  where
+    eleven : {p : ℕ} → (p + (d + 1)) % 12 ≡ length cs % 12 → p < 12 → p ≡ 11
+    eleven x y = omega arith
 
-tooks-count : (s : ℕ) (x : Side) → tookAs s x .end .collector .count ≡ counted s (x .end .collector)
-unfolding taken
-tooks-count s x = refl
-
--- one end takes what arrives, having been in step
-module _ (a b : Side) (ca cb : List Cell) (D E pa pb n₀ : ℕ) (v : Inv a b ca cb (suc D) E pa pb)
-    (step : InStep (b .end .collector) ca (suc D) (suc n₀) (length ca)) (h : Harm) (clear : (isSound h || not (arrives D (a .sent))) ≡ true) where
-  sound-arrival : D < length ca → arrive D h a b ≡ tookAs (symbolIn (cellAt ca D)) b
-  sound-arrival t = ap (λ (x : Harm). arrive D x a b) (is-sound h _ (does-arrive a b ca cb D E pa pb v t) clear) ∙ arrive-sound a b ca cb D E pa pb v t
-
-  arrival-step : InStep (arrive D h a b .end .collector) ca D n₀ (length ca)
-  arrival-step t p =
-      ap (λ (x : Side). x .end .collector .count) (sound-arrival t)
-      ∙ tooks-count (symbolIn (cellAt ca D)) b
-      ∙ arrived-counted a b ca cb D E pa pb v t n₀ step p
-
-  -- the last symbol of a frame whose place 0 came since n₀
-  module _ (there : D < length ca) (last : cellAt ca D .place ≡ 11) (since : 11 + n₀ < length ca) where
-    accepted : accepts (symbolIn (cellAt ca D)) (b .end .collector) ≡ true
-    accepted = arrived-accepts a b ca cb D E pa pb v there n₀ step (omega arith) last
-
-    arrival-entered : (k : ℕ) → k ≤ length (b .taken) → 2 * k + 1 ≤ rank (frameAt ca D) → k < length (arrive D h a b .entered)
-    arrival-entered k m r = subst (λ (x : Side). k < length (x .entered)) (sym (sound-arrival there))
-        (took-entered a b ca cb D E pa pb v (symbolIn (cellAt ca D)) (harm-took a b ca cb D E pa pb v there sound .1) k accepted m r)
-
-    arrival-heard : (arrives D (a .sent) && accepts (harmed h (getD (a .sent) D 0)) (b .end .collector)) ≡ true
-    arrival-heard = rw (does-arrive a b ca cb D E pa pb v there, is-sound h _ (does-arrive a b ca cb D E pa pb v there) clear, symbol-is a b ca cb D E pa pb v there) accepted
-
-module _ (a b : Side) (ca cb : List Cell) (D E pa pb k n₀ t₁ t₂ t₃ : ℕ) (v : Inv a b ca cb D E pa pb) (even : length ca ≡ length cb)
-    (m : Message) (s : Schedule n₀ D E t₁ t₂ t₃) (g : Prog a b ca cb D E pa k n₀ t₁ t₂ t₃ (length ca) m) where
+module _ {a b : Side} {ca cb : List Cell} {D E pa pb k n₀ t₁ t₂ t₃ : ℕ} {m : Message} (v : Inv a b ca cb D E pa pb)
+    (even : length ca ≡ length cb) (s : Schedule n₀ D E t₁ t₂ t₃)
+    (g : Prog a b ca cb D E pa k n₀ t₁ t₂ t₃ (length ca) m) where
   abbrev n : ℕ
   n = length ca
 
-  position-a : n % 12 ≡ 0 → eqb (a .end .sender .position) 0 ≡ true
-  position-a z = eq-eqb _ 0 (v .fit-a .stream .position ∙ z)
-
-  loaded-more : a .loaded ≤ sends a .loaded
-  loaded-more = more (loadsNow (a .end)) (a .loaded)
-
-  acked-more : a .acknowledged ≤ sends a .acknowledged
-  acked-more = more (acksNow (a .end)) (a .acknowledged)
-
-  loaded-by : t₁ < suc n → k < sends a .loaded
-  loaded-by h = now-or-before (k < sends a .loaded) t₁ n h (λ l. le-trans (g .loaded l) loaded-more)
-      (λ e. let t = position-a (ap (λ (m : ℕ). m % 12) (sym e) ∙ s .start₁) in
-      subst (λ (x : Side). k < x .loaded) (sym (sends-as a true (v .fit-a .good) t))
-      (new-loads a b ca cb D E pa pb v t k (g .acked) (g .accepted)))
-
-  done-by : t₃ < suc n → k < sends a .acknowledged
-  done-by h = now-or-before (k < sends a .acknowledged) t₃ n h (λ l. le-trans (g .done l) acked-more)
-      (λ e. let t = position-a (ap (λ (m : ℕ). m % 12) (sym e) ∙ s .start₃) in
-      subst (λ (x : Side). k < x .acknowledged) (sym (sends-as a true (v .fit-a .good) t))
-      (subst (λ (m : ℕ). k < m) (sym (acknowledged-is a b ca cb D E pa pb v t)) (g .heard (le-trans (s .third) (le-of-eq e)))))
-
-  -- the world after both have sent
   abbrev ca′ : List Cell
   ca′ = cellOf a ca ∷ ca
 
   abbrev cb′ : List Cell
   cb′ = cellOf b cb ∷ cb
 
-  both-sent : Inv (sends a) (sends b) ca′ cb′ (suc D) (suc E) pa pb
-  both-sent = exchanged (sent-kept b (sends a) cb ca′ E (suc D) pb pa (exchanged (sent-kept a b ca cb D E pa pb v (eqb (a .end .sender .position) 0) refl)) (eqb (b .end .sender .position) 0) refl)
+  position-a : n % 12 ≡ 0 → eqb (a .end .sender .position) 0 ≡ true
+  position-a z = eq-eqb _ 0 (v .fit-a .sender .position ∙ z)
+
+  acked-more : a .acknowledged ≤ sends a .acknowledged
+  acked-more = more (acksNow (a .end)) (a .acknowledged)
+
+  loaded-by : t₁ < suc n → k < sends a .loaded
+  loaded-by h =
+      now-or-before (k < sends a .loaded) t₁ n h
+      (λ l. le-trans (g .loaded l) (more (loadsNow (a .end)) (a .loaded)))
+      (λ e.
+      let t = position-a (ap (λ (m : ℕ). m % 12) (sym e) ∙ s .start₁) in
+      subst (λ (x : Side). k < x .loaded) (sym (sends-as a true (v .fit-a .good) t))
+      (new-loads v t k (g .acked) (g .accepted)))
+
+  done-by : t₃ < suc n → k < sends a .acknowledged
+  done-by h =
+      now-or-before (k < sends a .acknowledged) t₃ n h
+      (λ l. le-trans (g .done l) acked-more)
+      (λ e.
+      let t = position-a (ap (λ (m : ℕ). m % 12) (sym e) ∙ s .start₃) in
+      subst (λ (x : Side). k < x .acknowledged) (sym (sends-as a true (v .fit-a .good) t))
+      (subst (λ (m : ℕ). k < m) (sym (acknowledged-is v t)) (g .heard (le-trans (s .third) (le-of-eq e)))))
 
   ranks-by : (i : ℕ) → i + t₁ < suc n → 2 * k + 1 ≤ rank (frameAt ca′ i)
-  ranks-by zero h = subst (λ (x : ℕ). 2 * k + 1 ≤ x) (sym (both-sent .ab .newest)) (sum (le-trans (g .acked) acked-more) (loaded-by (omega arith)))
+  ranks-by zero h =
+      subst (λ (x : ℕ). 2 * k + 1 ≤ x) (sym (both-sent v .ab .onward .newest))
+      (sum (le-trans (g .acked) acked-more) (loaded-by (omega arith)))
     where
       sum : {p q : ℕ} → k ≤ p → k < q → 2 * k + 1 ≤ p + q
       sum x y = omega arith
@@ -133,20 +108,25 @@ module _ (a b : Side) (ca cb : List Cell) (D E pa pb k n₀ t₁ t₂ t₃ : ℕ
     where
       go : (t : Bool) → eqb (b .end .sender .position) 0 ≡ t → k < cellSent t b cb .frame .entered
       go true e = g .entered (omega (arith, s .second))
-      go false e = g .answers 0 (later (eqb-false _ _ e) (v .fit-b .stream .position ∙ ap (λ (m : ℕ). m % 12) (sym even)) (s .start₂))
+      go false e =
+          g .answers 0
+          (later (eqb-false _ _ e) (v .fit-b .sender .position ∙ ap (λ (m : ℕ). m % 12) (sym even)) (s .start₂))
         where
-          later : (b .end .sender .position ≡ 0 → ⊥) → b .end .sender .position ≡ n % 12 → t₂ % 12 ≡ 0 → 0 + t₂ < n
+          later : {p : ℕ} → (p ≡ 0 → ⊥) → p ≡ n % 12 → t₂ % 12 ≡ 0 → 0 + t₂ < n
           later x y z = omega arith
   answers-by (suc i) h = g .answers i (omega arith)
 
-  -- what a slot leaves of the collections: they are as they were before the sending
+  -- the collections are as they were before the sending
   step-b : InStep (sends b .end .collector) ca′ (suc D) (suc n₀) (suc n)
-  step-b h p = ap (λ (c : Collector). c .count) (send-leaves (b .end) .collector) ∙ g .in-step-b (omega arith) (omega arith)
+  step-b h p =
+      ap (λ (c : Collector). c .count) (send-leaves (b .end) .collector) ∙ g .in-step-b (omega arith) (omega arith)
 
-  step-a : InStep (sends a .end .collector) cb′ (suc E) (suc n₀) (suc n)
-  step-a h p = ap (λ (c : Collector). c .count) (send-leaves (a .end) .collector) ∙ g .in-step-a (omega arith) (omega arith)
+  step-a : InStep (sends a .end .collector) cb′ (suc E) (suc n₀) (length cb′)
+  step-a h p =
+      ap (λ (c : Collector). c .count) (send-leaves (a .end) .collector)
+      ∙ g .in-step-a (omega (arith, even)) (omega (arith, even))
 
-  module _ (ha hb : Harm) (clear-a : (isSound ha || not (arrives E (sends b .sent))) ≡ true) (clear-b : (isSound hb || not (arrives D (sends a .sent))) ≡ true) where
+  module _ (ha hb : Harm) (clear-a : Clear E ha (sends b)) (clear-b : Clear D hb (sends a)) where
     abbrev a′ : Side
     a′ = arrive E ha (sends b) (sends a)
 
@@ -154,28 +134,32 @@ module _ (a b : Side) (ca cb : List Cell) (D E pa pb k n₀ t₁ t₂ t₃ : ℕ
     b′ = arrive D hb (sends a) (sends b)
 
     entered-by : t₁ + 12 + D ≤ suc n → k < length (b′ .entered)
-    entered-by h = now-or-before (k < length (b′ .entered)) (t₁ + 11 + D) n (omega arith)
-        (λ l. le-trans (g .entered (omega arith)) (takes-longer (arrives D (sends a .sent)) (harmed hb (getD (sends a .sent) D 0)) (sends b)))
-        (λ e. let there : D < suc n = omega arith in
-        arrival-entered (sends a) (sends b) ca′ cb′ D (suc E) pa pb n₀ both-sent step-b hb clear-b there
-        (eleven (both-sent .fit-a .stream .places D there) (both-sent .fit-a .stream .within D) (s .start₁) e) (omega (arith, s .first)) k (g .taken) (ranks-by D (omega arith)))
-      where
-        eleven : {p : ℕ} → (p + (D + 1)) % 12 ≡ suc n % 12 → p < 12 → t₁ % 12 ≡ 0 → t₁ + 11 + D ≡ n → p ≡ 11
-        eleven x y z w = omega arith
+    entered-by h =
+        now-or-before (k < length (b′ .entered)) (t₁ + 11 + D) n (omega arith)
+        (λ l. le-trans (g .entered (omega arith))
+        (takes-longer (arrives D (sends a .sent)) (harmed hb (getD (sends a .sent) D 0)) (sends b)))
+        (λ e.
+        let there : D < suc n = omega arith in
+        arrival-entered (both-sent v) n₀ step-b hb clear-b there
+        (last-place (both-sent v .fit-a .line) D t₁ refl there (s .start₁) e) (omega (arith, s .first)) k (g .taken)
+        (ranks-by D (omega arith)))
 
     heard-by : t₂ + 12 + E ≤ suc n → k < hears E ha (sends b) (sends a) cb′ pa
-    heard-by h = go (arrives E (sends b .sent) && accepts (harmed ha (getD (sends b .sent) E 0)) (sends a .end .collector)) refl
+    heard-by h = go accepted refl
       where
-        eleven : {p : ℕ} → (p + (E + 1)) % 12 ≡ suc (length cb) % 12 → p < 12 → t₂ % 12 ≡ 0 → t₂ + 11 + E ≡ n → p ≡ 11
-        eleven x y z w = omega (arith, even)
+        accepted : Bool
+        accepted = arrives E (sends b .sent) && accepts (harmed ha (getD (sends b .sent) E 0)) (sends a .end .collector)
 
-        go : (t : Bool) → (arrives E (sends b .sent) && accepts (harmed ha (getD (sends b .sent) E 0)) (sends a .end .collector)) ≡ t → k < cond t (frameAt cb′ E .entered) pa
+        go : (t : Bool) → accepted ≡ t → k < cond t (frameAt cb′ E .entered) pa
         go true q = answers-by E (omega arith)
-        go false q = now-or-before (k < pa) (t₂ + 11 + E) n (omega arith) (λ l. g .heard (omega arith))
-            (λ e. let there : E < suc (length cb) = omega (arith, even) in
-            absurd (false≢true (sym q ∙ arrival-heard (sends b) (sends a) cb′ ca′ E (suc D) pb pa n₀ (exchanged both-sent)
-            (subst (λ (m : ℕ). InStep (sends a .end .collector) cb′ (suc E) (suc n₀) (suc m)) even step-a) ha clear-a there
-            (eleven (both-sent .fit-b .stream .places E there) (both-sent .fit-b .stream .within E) (s .start₂) e) (omega (arith, even, s .first, s .second)))))
+        go false q =
+            now-or-before (k < pa) (t₂ + 11 + E) n (omega arith)
+            (λ l. g .heard (omega arith))
+            (λ e.
+            let there : E < length cb′ = omega (arith, even) in
+            absurd (false≢true (sym q ∙ arrival-heard (exchanged (both-sent v)) n₀ step-a ha clear-a there
+            (last-place (both-sent v .fit-b .line) E t₂ (ap suc (sym even)) there (s .start₂) e)
+            (omega (arith, even, s .first, s .second)))))
 
     pub slot-progress : Prog a′ b′ ca′ cb′ D E (hears E ha (sends b) (sends a) cb′ pa) k n₀ t₁ t₂ t₃ (suc n) m
     slot-progress = record {
@@ -185,12 +169,12 @@ module _ (a b : Side) (ca cb : List Cell) (D E pa pb k n₀ t₁ t₂ t₃ : ℕ
       taken = subst (λ (l : List Message). k ≤ length l) (sym (far .taken)) (g .taken);
       loaded = λ h. subst (λ (m : ℕ). k < m) (sym (near .loaded)) (loaded-by h);
       ranks = ranks-by;
-      in-step-b = arrival-step (sends a) (sends b) ca′ cb′ D (suc E) pa pb n₀ both-sent step-b hb clear-b;
+      in-step-b = arrival-step (both-sent v) n₀ step-b hb clear-b;
       entered = entered-by;
       answers = answers-by;
-      in-step-a = subst (λ (m : ℕ). InStep (a′ .end .collector) cb′ E n₀ (suc m)) (sym even)
-          (arrival-step (sends b) (sends a) cb′ ca′ E (suc D) pb pa n₀ (exchanged both-sent)
-          (subst (λ (m : ℕ). InStep (sends a .end .collector) cb′ (suc E) (suc n₀) (suc m)) even step-a) ha clear-a);
+      in-step-a =
+          subst (λ (m : ℕ). InStep (a′ .end .collector) cb′ E n₀ (suc m)) (sym even)
+          (arrival-step (exchanged (both-sent v)) n₀ step-a ha clear-a);
       heard = heard-by;
       done = λ h. subst (λ (m : ℕ). k < m) (sym (near .acknowledged)) (done-by h);
     }

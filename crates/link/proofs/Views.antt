@@ -1,10 +1,10 @@
--- An end, seen as the two halves of the protocol: each step of "Sending" and "Taking" on an end is the protocol's step on what it
--- sees of it. So the laws of the crate protocol hold of ends.
+-- An end, seen as the two halves of the protocol: each step of "Sending" and "Taking" on an end is the protocol's step
+-- on what it sees of it. So the laws of the crate protocol hold of ends.
 --   outOf e   the sending half of an end
 --   inOf i    the receiving half
 -- Assumes nothing.
 use Prim.Native.Nat.{ℕ}
-use mathlib.Core.Bool.{Bool, true, false}
+use mathlib.Core.Bool.{Bool, true}
 use mathlib.Core.List.{List}
 use mathlib.Core.Path.{_≡_, refl}
 use Rattle.frame.specs.Frame.{marked, even}
@@ -31,41 +31,42 @@ inOf i = record { expected = i .expected; acknowledge = i .acknowledge; full = i
 
 -- Sending
 
-acks-view : (e : End) → acked e ≡ steps.acks (e .heard .ack) (e .heard .togack) (outOf e .toggle)
+pub acks-view : (e : End) → acked e ≡ steps.acks (e .heard .ack) (e .heard .togack) (outOf e .toggle)
 unfolding acked
 acks-view e = refl
 
-stepOne-view : (a : Bool) (e : End) → outOf (stepOne a e) ≡ steps.stepOne a (outOf e)
+pub stepOne-view : (a : Bool) (e : End) → outOf (stepOne a e) ≡ steps.stepOne a (outOf e)
 stepOne-view a e = refl
 
-loads-view : (e : End) → loads e ≡ steps.loads (outOf e)
+pub loads-view : (e : End) → loads e ≡ steps.loads (outOf e)
 loads-view e = refl
 
-stepThree-view : (a l : Bool) (e : End) → outOf (stepsTwoToFour a l e) ≡ steps.stepThree l (outOf e)
+pub stepThree-view : (a l : Bool) (e : End) → outOf (stepsTwoToFour a l e) ≡ steps.stepThree l (outOf e)
 stepThree-view a l e = refl
 
 -- Taking
 
-releases-view : (e : End) → releases e ≡ steps.releases (e .heard .valid) (inOf (e .inbox))
+pub releases-view : (e : End) → releases e ≡ steps.releases (e .heard .valid) (inOf (e .inbox))
 releases-view e = refl
 
-settle-view : (e : End) → inOf (settled e) ≡ steps.settle (releases e) (e .heard .toggle) (inOf (e .inbox))
+pub settle-view : (e : End) → inOf (settled e) ≡ steps.settle (releases e) (e .heard .toggle) (inOf (e .inbox))
 settle-view e = refl
 
-placed-view : (s : ℕ) (c : Collector) → placed s c ≡ steps.placed (marked s) (even s) s (c .symbols) (c .count)
+pub placed-view : (s : ℕ) (c : Collector) → placed s c ≡ steps.placed (marked s) (even s) s (c .symbols) (c .count)
 placed-view s c = refl
 
-counted-view : (s : ℕ) (c : Collector) → counted s c ≡ steps.counted (marked s) (even s) (c .count)
+pub counted-view : (s : ℕ) (c : Collector) → counted s c ≡ steps.counted (marked s) (even s) (c .count)
 counted-view s c = refl
 
-completes-view : (s : ℕ) (c : Collector) → completes s c ≡ steps.completes (marked s) (even s) (c .count)
+pub completes-view : (s : ℕ) (c : Collector) → completes s c ≡ steps.completes (marked s) (even s) (c .count)
 completes-view s c = refl
 
-enters-view : (h : Heard) (i : Inbox) → enters true h i ≡ steps.enters (h .valid) (h .toggle) (inOf i)
+pub enters-view : (h : Heard) (i : Inbox) → enters true h i ≡ steps.enters (h .valid) (h .toggle) (inOf i)
 enters-view h i = refl
 
-entered-view : (b : Bool) (l : List ℕ) (i : Inbox) → inOf (entered b l i) ≡ steps.enter b (saidBy l .toggle) (inOf i)
+pub entered-view : (b : Bool) (l : List ℕ) (i : Inbox)
+    → inOf (entered b l i) ≡ steps.enter b (saidBy l .toggle) (inOf i)
 entered-view b l i = refl
 
-emptied-view : (e : End) → inOf (readEnd e 2317 .inbox) ≡ steps.emptied (inOf (e .inbox))
+pub emptied-view : (e : End) → inOf (readEnd e 2317 .inbox) ≡ steps.emptied (inOf (e .inbox))
 emptied-view e = refl

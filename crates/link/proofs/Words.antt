@@ -5,12 +5,11 @@
 --   Says l v t k g n    the frame built from l says just that
 -- Assumes nothing.
 use Prim.Native.Nat.{ℕ, suc, _+_, _*_, _/_, _%_, _≤_, _<_}
-use mathlib.Core.Bool.{Bool, true, false, cond}
-use mathlib.Core.List.{List, [], _∷_, _++_, map}
-use mathlib.Core.Path.{_≡_, refl, sym, ap, _∙_}
+use mathlib.Core.Bool.{Bool, true, false}
+use mathlib.Core.List.{List, _∷_, map}
+use mathlib.Core.Path.{_≡_, ap, _∙_}
 use native.Mathlib.Nat.{mod-eq-of-lt}
 use native.Mathlib.Omega.{arith}
-use lib.Dec.{eqb}
 use lib.ListN.{length, getD, take, drop, length-take, length-drop, length-map, List·getD-map}
 use lib.Seq.{ext-getD, getD-take, getD-drop}
 use borrow.Author.Tests.{eq-eqb, ne-eqb}
@@ -44,23 +43,11 @@ unfolding odd
 odd-is true n e = eq-eqb (n % 2) 1 e
 odd-is false n e = ne-eqb (n % 2) 1 (λ z. omega arith)
 
--- the four bits and the number of a word in whose symbol s they stand
-module _ (v t k g n s : ℕ) (hv : v ≤ 1) (ht : t ≤ 1) (hk : k ≤ 1) (hg : g ≤ 1) (hn : n ≤ 15)
-    (e : s % 256 ≡ (128 * v + 64 * t + 32 * k + 16 * g + n) % 256) where
-  at-valid : s / 128 % 2 ≡ v
-  at-valid = omega arith
-
-  at-toggle : s / 64 % 2 ≡ t
-  at-toggle = omega arith
-
-  at-ack : s / 32 % 2 ≡ k
-  at-ack = omega arith
-
-  at-togack : s / 16 % 2 ≡ g
-  at-togack = omega arith
-
-  at-number : s % 16 ≡ n
-  at-number = omega arith
+-- the four bits and the number that stand in a symbol s
+word-reads : (v t k g n s : ℕ) → v ≤ 1 → t ≤ 1 → k ≤ 1 → g ≤ 1 → n ≤ 15
+    → s % 256 ≡ (128 * v + 64 * t + 32 * k + 16 * g + n) % 256
+    → (s / 128 % 2 ≡ v) × (s / 64 % 2 ≡ t) × (s / 32 % 2 ≡ k) × (s / 16 % 2 ≡ g) × (s % 16 ≡ n)
+word-reads v t k g n s hv ht hk hg hn e = (omega arith, omega arith, omega arith, omega arith, omega arith)
 
 pub record Says (l : List ℕ) (v t k g : Bool) (n : ℕ) : Type 0 where
   pub valid : said l .valid ≡ v
@@ -69,38 +56,47 @@ pub record Says (l : List ℕ) (v t k g : Bool) (n : ℕ) : Type 0 where
   pub togack : said l .togack ≡ g
   pub number : getD (build l) 1 0 % 16 ≡ n
 
-word-num : (v t k g : Bool) (n : ℕ) → oneWord v t k g n ≡ 128 * num v + 64 * num t + 32 * num k + 16 * num g + n
-word-num v t k g n = rw (bit-num v 128, bit-num t 64, bit-num k 32, bit-num g 16)
-
-pub word-says : (l : List ℕ) (v t k g : Bool) (n : ℕ) → length l ≡ 10 → n ≤ 15 → getD l 1 0 ≡ oneWord v t k g n → Says l v t k g n
+pub word-says : (l : List ℕ) (v t k g : Bool) (n : ℕ) → length l ≡ 10 → n ≤ 15 → getD l 1 0 ≡ oneWord v t k g n
+    → Says l v t k g n
 word-says l v t k g n h hn e = record {
-  valid = odd-is v _ (at-valid (num v) (num t) (num k) (num g) n s (num-le v) (num-le t) (num-le k) (num-le g) hn f);
-  toggle = odd-is t _ (at-toggle (num v) (num t) (num k) (num g) n s (num-le v) (num-le t) (num-le k) (num-le g) hn f);
-  ack = odd-is k _ (at-ack (num v) (num t) (num k) (num g) n s (num-le v) (num-le t) (num-le k) (num-le g) hn f);
-  togack = odd-is g _ (at-togack (num v) (num t) (num k) (num g) n s (num-le v) (num-le t) (num-le k) (num-le g) hn f);
-  number = at-number (num v) (num t) (num k) (num g) n s (num-le v) (num-le t) (num-le k) (num-le g) hn f;
+  valid = odd-is v _ (reads .0);
+  toggle = odd-is t _ (reads .1);
+  ack = odd-is k _ (reads .2);
+  togack = odd-is g _ (reads .3);
+  number = reads .4;
 }
   where
     s : ℕ
     s = getD (build l) 1 0
 
-    f : s % 256 ≡ (128 * num v + 64 * num t + 32 * num k + 16 * num g + n) % 256
-    f = build-data l 1 h (omega arith) ∙ ap (λ (x : ℕ). x % 256) (e ∙ word-num v t k g n)
+    word-num : oneWord v t k g n ≡ 128 * num v + 64 * num t + 32 * num k + 16 * num g + n
+    word-num = rw (bit-num v 128, bit-num t 64, bit-num k 32, bit-num g 16)
+
+    stands : s % 256 ≡ (128 * num v + 64 * num t + 32 * num k + 16 * num g + n) % 256
+    stands = build-data l 1 h (omega arith) ∙ ap (λ (x : ℕ). x % 256) (e ∙ word-num)
+
+    reads : (s / 128 % 2 ≡ num v) × (s / 64 % 2 ≡ num t) × (s / 32 % 2 ≡ num k) × (s / 16 % 2 ≡ num g) × (s % 16 ≡ n)
+    reads =
+        word-reads (num v) (num t) (num k) (num g) n s (num-le v) (num-le t) (num-le k) (num-le g) hn stands
 
 -- the message bytes of a built frame are those it was built from
-pub bytes-built : (x y : ℕ) (l : List ℕ) → length l ≡ 8 → above 255 l ≡ false → map dataOf (take 8 (drop 2 (build (x ∷ y ∷ l)))) ≡ l
+pub bytes-built : (x y : ℕ) (l : List ℕ) → length l ≡ 8 → above 255 l ≡ false
+    → map dataOf (take 8 (drop 2 (build (x ∷ y ∷ l)))) ≡ l
 bytes-built x y l h b = ext-getD 0 _ _ lengths at
   where
     ten : List ℕ
     ten = x ∷ y ∷ l
 
+    bytes : List ℕ
+    bytes = map dataOf (take 8 (drop 2 (build ten)))
+
     ten-length : length ten ≡ 10
     ten-length = omega arith
 
-    lengths : length (map dataOf (take 8 (drop 2 (build ten)))) ≡ length l
+    lengths : length bytes ≡ length l
     lengths = simp (length-map, length-take, length-drop, build-length ten ten-length) (omega arith)
 
-    at : (i : ℕ) → i < length (map dataOf (take 8 (drop 2 (build ten)))) → getD (map dataOf (take 8 (drop 2 (build ten)))) i 0 ≡ getD l i 0
+    at : (i : ℕ) → i < length bytes → getD bytes i 0 ≡ getD l i 0
     at i q =
         let below : i < 8 = omega (arith, lengths) in
         List·getD-map dataOf (take 8 (drop 2 (build ten))) i 0

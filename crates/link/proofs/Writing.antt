@@ -1,7 +1,7 @@
--- A host writes, sets the health or asks for presence: the invariant is kept.
+-- A host writes, or sets the health: the invariant is kept.
 --   write-kept, health-kept
 -- Assumes nothing.
-use Prim.Native.Nat.{ℕ, zero, suc, _+_, _-_, _/_, _%_, _≤_, _<_}
+use Prim.Native.Nat.{ℕ, suc, _+_, _-_, _/_, _%_, _<_}
 use mathlib.Core.Bool.{Bool, true, false, not, cond, _&&_, _||_, false≢true, true≢false, and-true, and-false}
 use mathlib.Core.List.{List, [], _∷_, _++_}
 use mathlib.Core.Path.{_≡_, refl, sym, ap, _∙_, subst}
@@ -16,53 +16,66 @@ use Rattle.answer.specs.declared.Answer.{Answer}
 use Rattle.answer.specs.declared.Answer.the-variants.{Done, NoRegister, ReadOnly, Blocked}
 use Rattle.frame.specs.Bits.{odd}
 use Rattle.end.specs.declared.End.{End}
+use Rattle.end.specs.declared.Outbox.{Outbox}
 use Rattle.end.specs.declared.Next.{Next}
 use Rattle.end.specs.Good.{bad}
-use Rattle.end.specs.Registers.{outside, readOnly, blocked, writeControl, writeBytes, pickOutbox, written, writeOf, withHealth, healthOf}
+use Rattle.end.specs.Registers.{outside, readOnly, blocked, writeControl, writeBytes, pickOutbox, written, writeOf}
+use Rattle.end.specs.Registers.{withHealth, healthOf}
 use Rattle.endlaws.specs.Calls.{Call}
 use Rattle.endlaws.specs.Shape.{Shaped}
 use Rattle.endlaws.proofs.Base.{cond-true, cond-false}
 use Rattle.endlaws.proofs.Shapes.{after-shaped}
 use Rattle.endlaws.proofs.Goods.{after-good}
-use Rattle.endlaws.proofs.Done.{write-good, health-good}
+use Rattle.endlaws.proofs.Done.{write-good}
 use Rattle.protocol.specs.Steps.{num}
 use Rattle.protocol.proofs.Keeps.{Sending, sent-below}
-use Rattle.link.specs.Link.{Message, Side, Access, write, health, hosted, acceptsNow, messageOut}
-use Rattle.link.proofs.Cells.{Cell, frameAt}
+use Rattle.link.specs.Link.{Message, Side, write, health, hosted, acceptsNow, messageOut}
+use Rattle.link.proofs.Views.{outOf}
+use Rattle.link.proofs.Cells.{Cell}
 use Rattle.link.proofs.Logs.{length-more}
-use Rattle.link.proofs.Way.{outOf, nothing, Holding}
+use Rattle.link.proofs.Way.{nothing, Holding}
 use Rattle.link.proofs.Inv.{Inv}
-use Rattle.link.proofs.HostStep.{hostedAs, Unseen, hosted-as, grown-carries, grown-filling}
+use Rattle.link.proofs.HostStep.{endAs, hostedAs, hosted-as, grown-carries, grown-filling}
 
--- the end after a write that is done, where t says that it was to 3.2308
-abbrev writtenBy : Bool → End → ℕ → ℕ → End
-writtenBy t e r v = record {
-  sender = e .sender;
-  outbox = pickOutbox t (writeControl (e .outbox) v) (writeBytes (e .outbox) (r - 2309) v);
-  collector = e .collector;
-  heard = e .heard;
-  inbox = e .inbox;
-}
+module _ {a b : Side} {ca cb : List Cell} {D E pa pb : ℕ} (i : Inv a b ca cb D E pa pb) (r v : ℕ)
+    (sixteen : v < 65536) where
+  abbrev Keeps : Side → Type 0
+  Keeps s = Inv s b ca cb D E pa pb
 
-module _ (a b : Side) (ca cb : List Cell) (D E pa pb : ℕ) (i : Inv a b ca cb D E pa pb) (r v : ℕ) (sixteen : v < 65536) where
   -- refused: nothing is accepted, the end is as it was
-  refused : (x : Answer) → eqb (numberOf x) 0 ≡ false → writeOf (a .end) r v ≡ record { answer = x; end = a .end } → Inv (hosted (write r v sixteen) a) b ca cb D E pa pb
-  refused x n q = subst (λ (s : Side). Inv s b ca cb D E pa pb) (sym is) i
+  refused : (x : Answer) → eqb (numberOf x) 0 ≡ false → writeOf (a .end) r v ≡ record { answer = x; end = a .end }
+      → Keeps (hosted (write r v sixteen) a)
+  refused x n q = subst (λ (s : Side). Keeps s) (sym is) i
     where
       accepts-not : acceptsNow r v (a .end) ≡ false
       accepts-not = rw (q, n, and-false, and-false)
 
-      is : hosted (write r v sixteen) a ≡ a
-      is = λ j. hostedAs a (q j .end) (a .host) (cond-false (a .accepted ++ (messageOut (writeOf (a .end) r v .end) ∷ [])) (a .accepted) accepts-not j) (a .taken)
+      accepted : hosted (write r v sixteen) a .accepted ≡ a .accepted
+      accepted =
+          cond-false (a .accepted ++ (messageOut (writeOf (a .end) r v .end) ∷ [])) (a .accepted) accepts-not
 
-  -- the register's pending bit after a write to 3.2308
+      is : hosted (write r v sixteen) a ≡ a
+      is = λ j. hostedAs a (q j .end) (a .host) (accepted j) (a .taken)
+
+  -- the transmit registers after a write that is done, where t says that it was to 3.2308
+  abbrev outBy : Bool → Outbox
+  outBy t = pickOutbox t (writeControl (a .end .outbox) v) (writeBytes (a .end .outbox) (r - 2309) v)
+
+  abbrev endBy : Bool → End
+  endBy t = endAs (a .end) (a .end .sender .health) (outBy t) (a .end .inbox)
+
+  -- the pending bit after a write to 3.2308
   abbrev pend : Bool
   pend = cond (a .end .outbox .pending) true (odd (v / 32768))
+
+  pend-is : (p k : Bool) → a .end .outbox .pending ≡ p → odd (v / 32768) ≡ k → pend ≡ cond p true k
+  pend-is p k f g = rw (f, g)
 
   abbrev old : Sending (length (a .accepted)) (a .loaded) (a .acknowledged) (outOf (a .end))
   old = i .ab .holding .sending
 
-  sending-same : pend ≡ a .end .outbox .pending → Sending (length (a .accepted)) (a .loaded) (a .acknowledged) (outOf (writtenBy true (a .end) r v))
+  sending-same : pend ≡ a .end .outbox .pending
+      → Sending (length (a .accepted)) (a .loaded) (a .acknowledged) (outOf (endBy true))
   sending-same z = record {
     accepted = old .accepted ∙ ap (λ (x : Bool). a .loaded + num x) (sym z);
     loaded = old .loaded;
@@ -70,15 +83,17 @@ module _ (a b : Side) (ca cb : List Cell) (D E pa pb : ℕ) (i : Inv a b ca cb D
     register = old .register;
   }
 
-  pend-is : (p k : Bool) → a .end .outbox .pending ≡ p → odd (v / 32768) ≡ k → pend ≡ cond p true k
-  pend-is p k f g = rw (f, g)
-
-  module _ (unseen : (t : Bool) → eqb r 2308 ≡ t → Unseen (a .end) (writtenBy t (a .end) r v)) where
+  module _ (fine : (t : Bool) → eqb r 2308 ≡ t → bad (endBy t) ≡ false)
+      (shaped : (t : Bool) → eqb r 2308 ≡ t → Shaped (endBy t)) where
     -- the same log: nothing new is pending
-    kept : (t : Bool) → eqb r 2308 ≡ t → Holding (writtenBy t (a .end) r v) (a .accepted) (a .loaded) (a .acknowledged) → Inv (hostedAs a (writtenBy t (a .end) r v) (a .host) (a .accepted) (a .taken)) b ca cb D E pa pb
-    kept t q h = hosted-as a b ca cb D E pa pb i (writtenBy t (a .end) r v) (a .host) (a .accepted) (a .taken) (unseen t q) h (i .ba .filling) (i .ab .filling) (i .ab .frames)
+    kept : (t : Bool) → eqb r 2308 ≡ t → Holding (endBy t) (a .accepted) (a .loaded) (a .acknowledged)
+        → Keeps (hostedAs a (endBy t) (a .host) (a .accepted) (a .taken))
+    kept t q h =
+        hosted-as i (a .end .sender .health) (outBy t) (a .end .inbox) (a .host) (a .accepted) (a .taken) (fine t q)
+        (shaped t q) h (i .ba .filling) (i .ab .filling) (i .ab .onward .frames)
 
-    bytes-kept : eqb r 2308 ≡ false → a .end .outbox .pending ≡ false → Inv (hostedAs a (writtenBy false (a .end) r v) (a .host) (a .accepted) (a .taken)) b ca cb D E pa pb
+    bytes-kept : eqb r 2308 ≡ false → a .end .outbox .pending ≡ false
+        → Keeps (hostedAs a (endBy false) (a .host) (a .accepted) (a .taken))
     bytes-kept q p = kept false q (record {
       sending = i .ab .holding .sending;
       valid = i .ab .holding .valid;
@@ -87,16 +102,21 @@ module _ (a b : Side) (ca cb : List Cell) (D E pa pb : ℕ) (i : Inv a b ca cb D
     })
 
     -- 3.2308, one pending: only PingTx changes
-    ping-kept : eqb r 2308 ≡ true → a .end .outbox .pending ≡ true → Inv (hostedAs a (writtenBy true (a .end) r v) (a .host) (a .accepted) (a .taken)) b ca cb D E pa pb
+    ping-kept : eqb r 2308 ≡ true → a .end .outbox .pending ≡ true
+        → Keeps (hostedAs a (endBy true) (a .host) (a .accepted) (a .taken))
     ping-kept q p = kept true q (record {
       sending = sending-same (cond-true true _ p ∙ sym p);
       valid = i .ab .holding .valid;
-      pending = λ z. i .ab .holding .pending p ∙ ap (λ (n : ℕ). record { number = n; bytes = a .end .outbox .bytes }) (sym (cond-true (a .end .outbox .number) (v / 256 % 16) p));
+      pending =
+          λ z. i .ab .holding .pending p
+          ∙ ap (λ (n : ℕ). record { number = n; bytes = a .end .outbox .bytes })
+          (sym (cond-true (a .end .outbox .number) (v / 256 % 16) p));
       sent = i .ab .holding .sent;
     })
 
     -- nothing pending and bit 15 clear
-    clear-kept : eqb r 2308 ≡ true → a .end .outbox .pending ≡ false → odd (v / 32768) ≡ false → Inv (hostedAs a (writtenBy true (a .end) r v) (a .host) (a .accepted) (a .taken)) b ca cb D E pa pb
+    clear-kept : eqb r 2308 ≡ true → a .end .outbox .pending ≡ false → odd (v / 32768) ≡ false
+        → Keeps (hostedAs a (endBy true) (a .host) (a .accepted) (a .taken))
     clear-kept q p k = kept true q (record {
       sending = sending-same (pend-is false false p k ∙ sym p);
       valid = i .ab .holding .valid;
@@ -104,31 +124,46 @@ module _ (a b : Side) (ca cb : List Cell) (D E pa pb : ℕ) (i : Inv a b ca cb D
       sent = i .ab .holding .sent;
     })
 
-    accept-kept : eqb r 2308 ≡ true → a .end .outbox .pending ≡ false → odd (v / 32768) ≡ true → Inv (hostedAs a (writtenBy true (a .end) r v) (a .host) (a .accepted ++ (messageOut (writtenBy true (a .end) r v) ∷ [])) (a .taken)) b ca cb D E pa pb
-    accept-kept q p k = hosted-as a b ca cb D E pa pb i (writtenBy true (a .end) r v) (a .host) (a .accepted ++ (m ∷ [])) (a .taken) (unseen true q) hold (i .ba .filling)
-        (grown-filling (a .accepted) _ _ _ _ _ _ _ (omega (arith, i .ab .order, old .accepted)) (i .ab .filling)) (λ j. grown-carries (a .accepted) _ _ _ (i .ab .frames j))
+    -- nothing pending and bit 15 set: a message is accepted
+    accept-kept : eqb r 2308 ≡ true → a .end .outbox .pending ≡ false → odd (v / 32768) ≡ true
+        → Keeps (hostedAs a (endBy true) (a .host) (a .accepted ++ (messageOut (endBy true) ∷ [])) (a .taken))
+    accept-kept q p k =
+        hosted-as i (a .end .sender .health) (outBy true) (a .end .inbox) (a .host) (a .accepted ++ (m ∷ [])) (a .taken)
+        (fine true q) (shaped true q) hold (i .ba .filling)
+        (grown-filling (a .accepted) m (omega (arith, i .ab .order, old .accepted)) (i .ab .filling))
+        (λ j. grown-carries (a .accepted) m (i .ab .onward .frames j))
       where
         m : Message
-        m = messageOut (writtenBy true (a .end) r v)
+        m = messageOut (endBy true)
 
         all : length (a .accepted) ≡ a .loaded
         all = old .accepted ∙ ap (λ (x : Bool). a .loaded + num x) p ∙ add-zero (a .loaded)
 
-        hold : Holding (writtenBy true (a .end) r v) (a .accepted ++ (m ∷ [])) (a .loaded) (a .acknowledged)
+        hold : Holding (endBy true) (a .accepted ++ (m ∷ [])) (a .loaded) (a .acknowledged)
         hold = record {
           sending = record {
-            accepted = length-more (a .accepted) m ∙ ap suc all ∙ sym (add-one (a .loaded)) ∙ ap (λ (x : Bool). a .loaded + num x) (sym (pend-is false true p k));
+            accepted =
+                length-more (a .accepted) m
+                ∙ ap suc all
+                ∙ sym (add-one (a .loaded))
+                ∙ ap (λ (x : Bool). a .loaded + num x) (sym (pend-is false true p k));
             loaded = old .loaded;
             toggle = old .toggle;
             register = old .register;
           };
           valid = i .ab .holding .valid;
-          pending = λ z. ap (λ (n : ℕ). getD (a .accepted ++ (m ∷ [])) n nothing) (sym all) ∙ getD-append-seam (a .accepted) m [] nothing;
-          sent = λ z. List·getD-append (a .accepted) (m ∷ []) nothing (a .acknowledged) (sent-below _ _ _ (outOf (a .end)) old z) ∙ i .ab .holding .sent z;
+          pending =
+              λ z. ap (λ (n : ℕ). getD (a .accepted ++ (m ∷ [])) n nothing) (sym all)
+              ∙ getD-append-seam (a .accepted) m [] nothing;
+          sent =
+              λ z. List·getD-append (a .accepted) (m ∷ []) nothing (a .acknowledged) (sent-below old z)
+              ∙ i .ab .holding .sent z;
         }
 
-    by-tests : (t k p : Bool) → eqb r 2308 ≡ t → odd (v / 32768) ≡ k → a .end .outbox .pending ≡ p → (p && (not t || k)) ≡ false
-        → Inv (hostedAs a (writtenBy t (a .end) r v) (a .host) (cond (t && k) (a .accepted ++ (messageOut (writtenBy t (a .end) r v) ∷ [])) (a .accepted)) (a .taken)) b ca cb D E pa pb
+    by-tests : (t k p : Bool) → eqb r 2308 ≡ t → odd (v / 32768) ≡ k → a .end .outbox .pending ≡ p
+        → (p && (not t || k)) ≡ false
+        → Keeps (hostedAs a (endBy t) (a .host)
+        (cond (t && k) (a .accepted ++ (messageOut (endBy t) ∷ [])) (a .accepted)) (a .taken))
     by-tests true true true qt qk qp n = absurd (true≢false n)
     by-tests true true false qt qk qp n = accept-kept qt qp qk
     by-tests true false true qt qk qp n = ping-kept qt qp
@@ -136,36 +171,43 @@ module _ (a b : Side) (ca cb : List Cell) (D E pa pb : ℕ) (i : Inv a b ca cb D
     by-tests false k true qt qk qp n = absurd (true≢false n)
     by-tests false k false qt qk qp n = bytes-kept qt qp
 
-  done : blocked (a .end) r v ≡ false → writeOf (a .end) r v ≡ record { answer = Done; end = written (a .end) r v } → Inv (hosted (write r v sixteen) a) b ca cb D E pa pb
-  done n q = subst (λ (x : Next). Inv (of x) b ca cb D E pa pb) (sym q)
-      (rw and-true (by-tests unseen (eqb r 2308) (odd (v / 32768)) (a .end .outbox .pending) refl refl refl n))
+  done : blocked (a .end) r v ≡ false → writeOf (a .end) r v ≡ record { answer = Done; end = written (a .end) r v }
+      → Keeps (hosted (write r v sixteen) a)
+  done n q =
+      subst (λ (x : Next). Keeps (of x)) (sym q)
+      (rw and-true (by-tests fine shaped (eqb r 2308) (odd (v / 32768)) (a .end .outbox .pending) refl refl refl n))
     where
       of : Next → Side
-      of x = hostedAs a (x .end) (a .host) (cond (eqb r 2308 && (odd (v / 32768) && eqb (numberOf (x .answer)) 0)) (a .accepted ++ (messageOut (x .end) ∷ [])) (a .accepted)) (a .taken)
+      of x =
+          hostedAs a (x .end) (a .host)
+          (cond (eqb r 2308 && (odd (v / 32768) && eqb (numberOf (x .answer)) 0))
+          (a .accepted ++ (messageOut (x .end) ∷ [])) (a .accepted)) (a .taken)
 
-      unseen : (t : Bool) → eqb r 2308 ≡ t → Unseen (a .end) (writtenBy t (a .end) r v)
-      unseen t f = record {
-        good = subst (λ (t : Bool). bad (writtenBy t (a .end) r v) ≡ false) f (subst (λ (x : Next). bad (x .end) ≡ false) q (after-good (Call.write r v sixteen) (a .end) (i .fit-a .good)));
-        shaped = subst (λ (t : Bool). Shaped (writtenBy t (a .end) r v)) f (subst (λ (x : Next). Shaped (x .end)) q (after-shaped (Call.write r v sixteen) (a .end) (i .fit-a .shaped)));
-        position = refl;
-        symbols = refl;
-        collector = refl;
-        heard = refl;
-      }
+      fine : (t : Bool) → eqb r 2308 ≡ t → bad (endBy t) ≡ false
+      fine t f =
+          subst (λ (t : Bool). bad (endBy t) ≡ false) f
+          (subst (λ (x : Next). bad (x .end) ≡ false) q (after-good (Call.write r v sixteen) (a .end) (i .fit-a .good)))
+
+      shaped : (t : Bool) → eqb r 2308 ≡ t → Shaped (endBy t)
+      shaped t f =
+          subst (λ (t : Bool). Shaped (endBy t)) f
+          (subst (λ (x : Next). Shaped (x .end)) q (after-shaped (Call.write r v sixteen) (a .end) (i .fit-a .shaped)))
 
   pub write-kept : Inv (hosted (write r v sixteen) a) b ca cb D E pa pb
   unfolding writeOf
   write-kept = go (outside r) (readOnly r) (blocked (a .end) r v) refl refl refl
     where
-      go : (x y z : Bool) → outside r ≡ x → readOnly r ≡ y → blocked (a .end) r v ≡ z → Inv (hosted (write r v sixteen) a) b ca cb D E pa pb
+      go : (x y z : Bool) → outside r ≡ x → readOnly r ≡ y → blocked (a .end) r v ≡ z
+          → Keeps (hosted (write r v sixteen) a)
       go true y z f g h = refused NoRegister refl (rw (i .fit-a .good, f))
       go false true z f g h = refused ReadOnly refl (rw (i .fit-a .good, f, g))
       go false false true f g h = refused Blocked refl (rw (i .fit-a .good, f, g, h))
       go false false false f g h = done h (write-good (a .end) r v (i .fit-a .good) f g h)
 
-pub health-kept : (a b : Side) (ca cb : List Cell) (D E pa pb : ℕ) → Inv a b ca cb D E pa pb → (h : ℕ) → Inv (hosted (health h) a) b ca cb D E pa pb
+pub health-kept : {a b : Side} {ca cb : List Cell} {D E pa pb : ℕ} → Inv a b ca cb D E pa pb → (h : ℕ)
+    → Inv (hosted (health h) a) b ca cb D E pa pb
 unfolding healthOf
-health-kept a b ca cb D E pa pb i h = go (ltb 3 h) refl
+health-kept {a} {b} {ca} {cb} {D} {E} {pa} {pb} i h = go (ltb 3 h) refl
   where
     of : End → Side
     of x = hostedAs a x (a .host) (a .accepted) (a .taken)
@@ -177,12 +219,7 @@ health-kept a b ca cb D E pa pb i h = go (ltb 3 h) refl
     go false f =
         let q : healthOf (a .end) h .end ≡ withHealth (a .end) h = rw (i .fit-a .good, f) in
         subst (λ (x : End). Inv (of x) b ca cb D E pa pb) (sym q)
-        (hosted-as a b ca cb D E pa pb i (withHealth (a .end) h) (a .host) (a .accepted) (a .taken) (record {
-          good = subst (λ (x : End). bad x ≡ false) q (after-good (Call.health h) (a .end) (i .fit-a .good));
-          shaped = subst (λ (x : End). Shaped x) q (after-shaped (Call.health h) (a .end) (i .fit-a .shaped));
-          position = refl;
-          symbols = refl;
-          collector = refl;
-          heard = refl;
-        }) (record { sending = i .ab .holding .sending; valid = i .ab .holding .valid; pending = i .ab .holding .pending; sent = i .ab .holding .sent })
-        (i .ba .filling) (i .ab .filling) (i .ab .frames))
+        (hosted-as i h (a .end .outbox) (a .end .inbox) (a .host) (a .accepted) (a .taken)
+        (subst (λ (x : End). bad x ≡ false) q (after-good (Call.health h) (a .end) (i .fit-a .good)))
+        (subst (λ (x : End). Shaped x) q (after-shaped (Call.health h) (a .end) (i .fit-a .shaped)))
+        (i .ab .holding) (i .ba .filling) (i .ab .filling) (i .ab .onward .frames))

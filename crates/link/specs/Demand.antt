@@ -1,12 +1,14 @@
--- Demand 3 of document 01, over the runs of Link.antt. near and far are the two sides, either way round.
+-- Demand 3 of document 01, over the runs of Link.antt. Messages go from the near side to the far one.
+--   Direction    from a to b, or from b to a: all that follows holds both ways
 --   pendingIn, senderHolds, registerHolds   the three named places: each holds one message or none
---   InTurn       accepted = taken, then far register, then sender and not yet entered, then pending
+--   held         what the three hold, the oldest message first
 --   most         how many accepted messages may be not taken yet
---   Idle         nothing pending, nothing unacknowledged, the far register empty
+--   InTurn       what is true after every run: accepted = taken + held
+--   Idle         nothing is pending, nothing is unacknowledged, the far register is empty
 --   clear        no symbol that arrives at either end is marked
 --   slots        how many slots a list of events has
 --   bound D E    58 + D + E
---   Through      message n of near is in the far register, or was, and is acknowledged
+--   Through      message n of the near side has entered the far register, and is acknowledged
 --   NothingLost, Delivered   the two parts of demand 3
 -- Assumes nothing.
 use Prim.Native.Nat.{ℕ, suc, _+_, _≤_, _<_}
@@ -17,40 +19,67 @@ use lib.Dec.{ltb}
 use lib.ListN.{length}
 use Rattle.end.specs.declared.End.{End}
 use Rattle.end.specs.Sending.{oldNumber, oldBytes}
-use Rattle.link.specs.Link.{Message, Side, World, Access, write, acceptsNow, Harm, sound, mark, Event, slot, atA, atB, messageOut, messageIn, arrives, sends, step, start, run, ruled}
+use Rattle.link.specs.Link.{Message, Side, World, Access, write, acceptsNow, messageOut, messageIn}
+use Rattle.link.specs.Link.{Harm, sound, mark, arrives, sends, Event, slot, atA, atB, step, start, run, ruled}
 
-abbrev pub held : Bool → Message → List Message
-held b m = cond b (m ∷ []) []
+-- The three named places
+
+abbrev pub place : Bool → Message → List Message
+place b m = cond b (m ∷ []) []
 
 abbrev pub pendingIn : Side → List Message
-pendingIn near = held (near .end .outbox .pending) (messageOut (near .end))
+pendingIn near = place (near .end .outbox .pending) (messageOut (near .end))
 
 -- the message in the frame being sent
 abbrev pub messageSent : End → Message
 messageSent e = record { number = oldNumber e; bytes = oldBytes e }
 
+-- in the sender and not yet entered at the far end: more were loaded than entered
 abbrev pub senderHolds : Side → Side → List Message
-senderHolds near far = held (ltb (length (far .entered)) (near .loaded)) (messageSent (near .end))
+senderHolds near far = place (ltb (length (far .entered)) (near .loaded)) (messageSent (near .end))
 
 abbrev pub registerHolds : Side → List Message
-registerHolds far = held (far .end .inbox .full) (messageIn (far .end))
+registerHolds far = place (far .end .inbox .full) (messageIn (far .end))
 
-abbrev pub InTurn : Side → Side → Type 0
-InTurn near far = near .accepted ≡ far .taken ++ (registerHolds far ++ (senderHolds near far ++ pendingIn near))
+abbrev pub held : Side → Side → List Message
+held near far = registerHolds far ++ (senderHolds near far ++ pendingIn near)
 
--- how many accepted messages may be not taken yet
+-- Nothing lost, nothing twice, nothing out of turn
+
 abbrev pub most : ℕ
 most = 3
 
-abbrev pub Few : Side → Side → Type 0
-Few near far = length (near .accepted) ≤ length (far .taken) + most
+-- the messages taken are the first so many of those accepted, and all others stand in the three places; what entered is
+-- what was taken and what stands in the register; no more are acknowledged than entered
+pub record InTurn (near far : Side) : Type 0 where
+  pub whole : near .accepted ≡ far .taken ++ held near far
+  pub few : length (held near far) ≤ most
+  pub entered : far .entered ≡ far .taken ++ registerHolds far
+  pub acknowledged : near .acknowledged ≤ length (far .entered)
 
--- Demand 3, first part: after every run by the rule, each way
+-- Both ways
+
+pub data Direction : Type 0 where
+  aToB bToA : Direction
+
+abbrev pub near : Direction → World → Side
+near aToB w = w .a
+near bToA w = w .b
+
+abbrev pub far : Direction → World → Side
+far aToB w = w .b
+far bToA w = w .a
+
+-- a call of the near side's host
+abbrev pub atNear : Direction → Access → Event
+atNear aToB c = atA c
+atNear bToA c = atB c
+
+-- Demand 3, first part: after every run by the rule
 abbrev pub NothingLost : Type 0
 NothingLost =
-    (D E : ℕ) (es : List Event) → ruled D E es start ≡ true
-    → (InTurn (run D E es start .a) (run D E es start .b) × InTurn (run D E es start .b) (run D E es start .a)
-    × Few (run D E es start .a) (run D E es start .b) × Few (run D E es start .b) (run D E es start .a))
+    (d : Direction) (D E : ℕ) (es : List Event) → ruled D E es start ≡ true
+    → (w : World) → w ≡ run D E es start → InTurn (near d w) (far d w)
 
 -- The bound
 
@@ -63,6 +92,7 @@ abbrev pub isSound : Harm → Bool
 isSound sound = true
 isSound (mark v l h) = false
 
+-- in a slot, what arrives is sound; a mark where nothing arrives yet harms nothing
 abbrev pub clearStep : ℕ → ℕ → Event → World → Bool
 clearStep D E (slot ha hb) w =
     (isSound ha || not (arrives E (sends (w .b) .sent)))
@@ -83,29 +113,14 @@ slots (atB c ∷ es) = slots es
 abbrev pub bound : ℕ → ℕ → ℕ
 bound D E = 58 + D + E
 
+-- message n, counted from 0, is m
 pub record Through (n : ℕ) (m : Message) (near far : Side) : Type 0 where
   pub entered : (before after : List Message) × (far .entered ≡ before ++ m ∷ after) × (length before ≡ n)
   pub acknowledged : n < near .acknowledged
 
--- Both ways
-
-pub data Direction : Type 0 where
-  aToB bToA : Direction
-
-abbrev pub near : Direction → World → Side
-near aToB w = w .a
-near bToA w = w .b
-
-abbrev pub far : Direction → World → Side
-far aToB w = w .b
-far bToA w = w .a
-
-abbrev pub atNear : Direction → Access → Event
-atNear aToB c = atA c
-atNear bToA c = atB c
-
--- Demand 3, second part: a write to 3.2308 is accepted into an idle direction, w being the world before it and x after it; then
--- after every continuation fs with enough slots, in which nothing that arrives is marked, the message is through
+-- A run es leads to the world w, in which the direction d is idle. There a write to 3.2308 is accepted, which leads to
+-- x. Then every continuation fs by the rule, with enough slots, in which nothing that arrives is marked, leads to a
+-- world y in which the message is through
 abbrev pub DeliveredIn : (ℕ → ℕ → ℕ) → Type 0
 DeliveredIn enough =
     (d : Direction) (D E : ℕ) (es : List Event) → ruled D E es start ≡ true
@@ -113,7 +128,9 @@ DeliveredIn enough =
     → (v : ℕ) (h : v < 65536) → acceptsNow 2308 v (near d w .end) ≡ true
     → (x : World) → x ≡ step D E (atNear d (write 2308 v h)) w
     → (fs : List Event) → ruled D E fs x ≡ true → clear D E fs x ≡ true → enough D E ≤ slots fs
-    → Through (length (near d w .accepted)) (messageOut (near d x .end)) (near d (run D E fs x)) (far d (run D E fs x))
+    → (y : World) → y ≡ run D E fs x
+    → Through (length (near d w .accepted)) (messageOut (near d x .end)) (near d y) (far d y)
 
+-- Demand 3, second part
 abbrev pub Delivered : Type 0
 Delivered = DeliveredIn bound

@@ -1,4 +1,5 @@
--- Two ends joined by two lines, each with its host. This page says what a run is; Demand.antt says what is demanded of every run.
+-- Two ends joined by two lines, each with its host. This page says what a run is; Demand.antt says what is demanded of
+-- every run.
 --   Message      a message number and eight bytes
 --   Host         how far a host is in taking a message: the receive-side registers read so far, and what they gave
 --   Side         one side: its end, all that it has sent (newest first), its host, and a log that nobody reads but the
@@ -7,9 +8,10 @@
 --   Harm         what happens to a symbol on its way: nothing, or a mark, any value from 512 to 1,023
 --   Event        a slot, or one host's call
 --   step, run    the world after an event, after a list of events, from two ends just reset
---   ruled        every receive-side read is the one that document 01's rule allows next
+--   ruled        every receive-side read is the one that the rule for taking a message allows next; Rule.antt shows
+--                that this is document 01's rule
 -- The delays are D slots from a to b and E slots from b to a. Assumes nothing.
-use Prim.Native.Nat.{ℕ, zero, suc, _+_, _*_, _/_, _%_, _≤_, _<_}
+use Prim.Native.Nat.{ℕ, _+_, _/_, _%_, _≤_, _<_}
 use mathlib.Core.Bool.{Bool, true, false, not, cond, _&&_, _||_}
 use mathlib.Core.List.{List, [], _∷_, _++_}
 use lib.Dec.{eqb, leb, ltb}
@@ -78,14 +80,15 @@ callOf present = Call.present
 abbrev pub receiveSide : ℕ → Bool
 receiveSide r = leb 2313 r && leb r 2317
 
--- To take a message a host reads 3.2313 and, only if bit 15 is set, next of its receive-side reads 3.2314 to 3.2317 in order
+-- the rule: a host at stage n of a take reads 3.2313 + n next of its receive-side registers; all other calls are free
 abbrev pub ruledCall : Access → Side → Bool
 ruledCall (read r) s = not (receiveSide r) || eqb r (2313 + s .host .stage)
 ruledCall (write r v h) s = true
 ruledCall (health h) s = true
 ruledCall present s = true
 
--- a host after a receive-side read of register r that gave the value v
+-- a host after a receive-side read of register r that gave the value v: 3.2313 begins a take where bit 15 is set,
+-- 3.2317 completes it
 abbrev pub advance : ℕ → ℕ → Host → Host
 advance r v h = record {
   stage = cond (eqb r 2313) (cond (odd (v / 32768)) 1 0) (cond (eqb r 2317) 0 (h .stage + 1));
@@ -205,7 +208,10 @@ arrive d h from s = takes (arrives d (from .sent)) (harmed h (getD (from .sent) 
 
 -- in a slot both send, then both take what arrives
 abbrev pub slotStep : ℕ → ℕ → Harm → Harm → World → World
-slotStep D E ha hb w = record { a = arrive E ha (sends (w .b)) (sends (w .a)); b = arrive D hb (sends (w .a)) (sends (w .b)) }
+slotStep D E ha hb w = record {
+  a = arrive E ha (sends (w .b)) (sends (w .a));
+  b = arrive D hb (sends (w .a)) (sends (w .b));
+}
 
 -- Events and runs
 

@@ -1,12 +1,13 @@
--- That a run by the rule of Link.antt is a run by document 01's rule: "To take a message a host reads 3.2313 and, only if bit 15 is
--- set, next of its receive-side reads 3.2314, 3.2315, 3.2316, 3.2317 in that order; the last completes it. Slots and other calls
--- may fall between."
+-- That the rule of a run is document 01's: "To take a message a host reads 3.2313 and, only if bit 15 is set, next of
+-- its receive-side reads 3.2314, 3.2315, 3.2316, 3.2317 in that order; the last completes it. Slots and other calls may
+-- fall between."
 --   Read         one receive-side read: the register, and the value that the host saw
---   reads d      the receive-side reads of a run by the host that takes the messages of direction d, in their order
---   Takes l      the reads l are takes by that rule, one after the other; the last one may be unfinished
---   messages     the messages of the completed takes: the number out of 3.2313, the bytes out of 3.2314 to 3.2317
+--   reads d      the receive-side reads, in a run, of the host that takes the messages of direction d
+--   Takes l      the reads l are takes by that sentence, one after the other; the last one may be unfinished
+--   messages     the messages of the takes that are complete: the number out of 3.2313, the bytes out of 3.2314 to
+--                3.2317
 --   RuleIs       a run is ruled exactly when the reads of both hosts are takes
---   TakenIs      what the log calls taken is exactly the messages of the completed takes
+--   TakenIs      what the log calls taken is exactly the messages of the takes that are complete
 -- Assumes nothing.
 use Prim.Native.Nat.{ℕ, _/_, _%_}
 use mathlib.Core.Bool.{Bool, true, false, cond}
@@ -16,7 +17,8 @@ use mathlib.Core.Path.{_≡_}
 use lib.ListN.{take}
 use Rattle.frame.specs.Bits.{odd}
 use Rattle.end.specs.Registers.{readOf}
-use Rattle.link.specs.Link.{Message, Side, World, Access, read, write, health, present, receiveSide, Event, slot, atA, atB, step, start, run, ruled}
+use Rattle.link.specs.Link.{Message, Side, World, Access, read, write, health, present, receiveSide}
+use Rattle.link.specs.Link.{Event, slot, atA, atB, step, start, run, ruled}
 use Rattle.link.specs.Demand.{Direction, aToB, bToA, far}
 
 pub record Read : Type 0 where
@@ -44,17 +46,21 @@ unfoldable pub reads : Direction → ℕ → ℕ → List Event → World → Li
 reads d D E [] w = []
 reads d D E (e ∷ es) w = readsIn d e w ++ reads d D E es (step D E e w)
 
+-- The rule
+
 abbrev pub bit15 : ℕ → Bool
 bit15 v = odd (v / 32768)
 
 pub data Takes : List Read → Type 0 where
   none : Takes []
-  -- there was no message
+  -- 3.2313 said that there is no message
   looked : {l : List Read} (v : ℕ) → bit15 v ≡ false → Takes l → Takes (gave 2313 v ∷ l)
-  -- there was one, and it was taken
-  took : {l : List Read} (v p q r s : ℕ) → bit15 v ≡ true → Takes l → Takes (gave 2313 v ∷ gave 2314 p ∷ gave 2315 q ∷ gave 2316 r ∷ gave 2317 s ∷ l)
-  -- there is one, and the take is unfinished: its first n reads, at most four
-  begun : (n v p q r : ℕ) → bit15 v ≡ true → Takes (take n (gave 2313 v ∷ gave 2314 p ∷ gave 2315 q ∷ gave 2316 r ∷ []))
+  -- it said that there is one, and it was taken
+  took : {l : List Read} (v p q r s : ℕ) → bit15 v ≡ true → Takes l
+      → Takes (gave 2313 v ∷ gave 2314 p ∷ gave 2315 q ∷ gave 2316 r ∷ gave 2317 s ∷ l)
+  -- it said that there is one, and the take is unfinished: its first n reads
+  begun : (n v p q r : ℕ) → bit15 v ≡ true
+      → Takes (take n (gave 2313 v ∷ gave 2314 p ∷ gave 2315 q ∷ gave 2316 r ∷ []))
 
 abbrev pub messageOf : ℕ → ℕ → ℕ → ℕ → ℕ → Message
 messageOf v p q r s = record {
@@ -69,7 +75,11 @@ messages (took v p q r s e t) = messageOf v p q r s ∷ messages t
 messages (begun n v p q r e) = []
 
 abbrev pub RuleIs : Type 0
-RuleIs = (D E : ℕ) (es : List Event) → (ruled D E es start ≡ true) ↔ ((d : Direction) → Takes (reads d D E es start))
+RuleIs =
+    (D E : ℕ) (es : List Event)
+    → (ruled D E es start ≡ true) ↔ ((d : Direction) → Takes (reads d D E es start))
 
 abbrev pub TakenIs : Type 0
-TakenIs = (D E : ℕ) (es : List Event) (d : Direction) (t : Takes (reads d D E es start)) → far d (run D E es start) .taken ≡ messages t
+TakenIs =
+    (D E : ℕ) (es : List Event) (d : Direction) (t : Takes (reads d D E es start))
+    → far d (run D E es start) .taken ≡ messages t

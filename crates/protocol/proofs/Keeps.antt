@@ -1,5 +1,5 @@
--- What the steps of the protocol keep, as facts on counts. Of the messages of one direction, ld were loaded, ackd acknowledged,
--- ent entered at the far end and tk taken out there; acc were accepted.
+-- What the steps of the protocol keep, as facts on counts. Of the messages of one direction, acc were accepted, ld
+-- loaded, ackd acknowledged, ent entered at the far end and tk taken out there.
 --   Sending    what the sending half says of acc, ld and ackd
 --   Hearing    what the acknowledgement last heard says: he messages had entered when it was made
 --   Receiving  what the receiving half says of ent and tk; the frame last heard was made when ha were acknowledged
@@ -9,7 +9,8 @@ use mathlib.Core.Bool.{Bool, true, false, not, cond, _&&_, false≢true}
 use mathlib.Core.Path.{_≡_, refl, ap}
 use mathlib.Core.Logic.{_≢_}
 use native.Mathlib.Omega.{arith}
-use Rattle.protocol.specs.Steps.{num, Out, acks, stepOne, loads, stepThree, In, releases, settle, enters, enter, emptied}
+use Rattle.protocol.specs.Steps.{num, Out, acks, stepOne, loads, stepThree}
+use Rattle.protocol.specs.Steps.{In, releases, settle, enters, enter, emptied}
 
 pub record Sending (acc ld ackd : ℕ) (o : Out) : Type 0 where
   pub accepted : acc ≡ ld + num (o .pending)
@@ -39,41 +40,46 @@ num-le false = omega arith
 apart : (x y : ℕ) → (x % 2 ≡ y % 2 → ⊥) → x ≤ y → x < y
 apart x y f l = let z : x ≢ y = λ e. f (ap (λ (n : ℕ). n % 2) e) in omega arith
 
--- Step 1 acts exactly where the acknowledgement last heard is newer than the last one acted on
-pub acks-heard : (ack togack toggle : Bool) (ackd he : ℕ) → Hearing ackd he ack togack → num toggle ≡ ackd % 2 → num (acks ack togack toggle) + ackd ≡ he
-acks-heard true true true ackd he h t = let f : he ≤ ackd + 1 = h .upto in omega arith
-acks-heard true true false ackd he h t = omega arith
-acks-heard true false true ackd he h t = omega arith
-acks-heard true false false ackd he h t = omega arith
-acks-heard false true true ackd he h t = omega arith
-acks-heard false true false ackd he h t = omega arith
-acks-heard false false true ackd he h t = omega arith
-acks-heard false false false ackd he h t = omega arith
+-- The sending half
 
-pub stepOne-sending : (a : Bool) (o : Out) (acc ld ackd he : ℕ) → Sending acc ld ackd o → num a + ackd ≡ he → he ≤ ld → Sending acc ld he (stepOne a o)
-stepOne-sending true o acc ld ackd he s e l = omega arith
-stepOne-sending false o acc ld ackd he s e l = omega arith
+-- step 1 acts exactly where the acknowledgement last heard is newer than the last one acted on
+pub acks-heard : (ack togack toggle : Bool) {ackd he : ℕ} → Hearing ackd he ack togack → num toggle ≡ ackd % 2
+    → num (acks ack togack toggle) + ackd ≡ he
+acks-heard true true true {ackd} {he} h t = let f : he ≤ ackd + 1 = h .upto in omega arith
+acks-heard true true false h t = omega arith
+acks-heard true false true h t = omega arith
+acks-heard true false false h t = omega arith
+acks-heard false true true h t = omega arith
+acks-heard false true false h t = omega arith
+acks-heard false false true h t = omega arith
+acks-heard false false false h t = omega arith
+
+pub stepOne-sending : (a : Bool) {o : Out} {acc ld ackd he : ℕ} → Sending acc ld ackd o → num a + ackd ≡ he → he ≤ ld
+    → Sending acc ld he (stepOne a o)
+stepOne-sending true s e l = omega arith
+stepOne-sending false s e l = omega arith
 
 abbrev outOf : Bool → Bool → Bool → Bool → Out
 outOf p r t g = record { pending = p; ready = r; toggle = t; register = g }
 
-abbrev inOf : Bool → Bool → Bool → Bool → In
-inOf x k f g = record { expected = x; acknowledge = k; full = f; toggle = g }
-
-pub stepThree-sending : (o : Out) (acc ld ackd : ℕ) → Sending acc ld ackd o → Sending acc (ld + num (loads o)) ackd (stepThree (loads o) o)
-stepThree-sending o acc ld ackd s = go (o .pending) (o .ready) (o .register) (o .toggle) s
+pub stepThree-sending : {o : Out} {acc ld ackd : ℕ} → Sending acc ld ackd o
+    → Sending acc (ld + num (loads o)) ackd (stepThree (loads o) o)
+stepThree-sending {o} {acc} {ld} {ackd} s = go (o .pending) (o .ready) (o .register) (o .toggle) s
   where
-    go : (p r g t : Bool) → Sending acc ld ackd (outOf p r t g) → Sending acc (ld + num (p && r)) ackd (stepThree (p && r) (outOf p r t g))
+    go : (p r g t : Bool) → Sending acc ld ackd (outOf p r t g)
+        → Sending acc (ld + num (p && r)) ackd (stepThree (p && r) (outOf p r t g))
     go true true true t s = omega arith
     go true true false t s = omega arith
     go true false g t s = omega arith
     go false r g t s = omega arith
 
 -- Valid stands in the frame exactly while the sender is not ready: kept by steps 1 and 3
-pub valid-sent : (a : Bool) (o : Out) → cond (loads (stepOne a o)) true (cond a false (not (o .ready))) ≡ not (stepThree (loads (stepOne a o)) (stepOne a o) .ready)
+pub valid-sent : (a : Bool) (o : Out) → cond (loads (stepOne a o)) true (cond a false (not (o .ready)))
+    ≡ not (stepThree (loads (stepOne a o)) (stepOne a o) .ready)
 valid-sent a o = go a (o .pending) (o .ready)
   where
-    go : (a p r : Bool) → cond (p && cond a true r) true (cond a false (not r)) ≡ not (cond (p && cond a true r) false (cond a true r))
+    go : (a p r : Bool) → cond (p && cond a true r) true (cond a false (not r))
+        ≡ not (cond (p && cond a true r) false (cond a true r))
     go true true r = refl
     go true false r = refl
     go false true true = refl
@@ -82,38 +88,57 @@ valid-sent a o = go a (o .pending) (o .ready)
     go false false false = refl
 
 -- what a frame made by the sending half says: its Valid and the counts
-pub valid-counts : (acc ld ackd : ℕ) (o : Out) → Sending acc ld ackd o → num (not (o .ready)) + ackd ≡ ld
-valid-counts acc ld ackd o s = go (o .ready) (s .loaded)
+pub valid-counts : {acc ld ackd : ℕ} {o : Out} → Sending acc ld ackd o → num (not (o .ready)) + ackd ≡ ld
+valid-counts {acc} {ld} {ackd} {o} s = go (o .ready) (s .loaded)
   where
     go : (r : Bool) → ld + num r ≡ ackd + 1 → num (not r) + ackd ≡ ld
     go true e = omega arith
     go false e = omega arith
 
 -- with a ready sender and a message pending, step 3 loads it
-pub loads-must : (acc ld ackd k : ℕ) (o : Out) → Sending acc ld ackd o → k ≤ ackd → k < acc → k < ld + num (loads o)
-loads-must acc ld ackd k o s a b = go (o .pending) (o .ready) (s .accepted) (s .loaded)
+pub loads-must : {acc ld ackd : ℕ} {o : Out} (k : ℕ) → Sending acc ld ackd o → k ≤ ackd → k < acc
+    → k < ld + num (loads o)
+loads-must {acc} {ld} {ackd} {o} k s a b = go (o .pending) (o .ready) (s .accepted) (s .loaded)
   where
     go : (p r : Bool) → acc ≡ ld + num p → ld + num r ≡ ackd + 1 → k < ld + num (p && r)
     go true true e f = omega arith
     go true false e f = omega arith
     go false r e f = omega arith
 
-pub settle-receiving : (valid toggle : Bool) (i : In) (ent tk ha : ℕ) → ha ≤ ent → Receiving ent tk ha valid toggle i → Receiving ent tk ha valid toggle (settle (releases valid i) toggle i)
-settle-receiving valid toggle i ent tk ha l r = go valid (i .acknowledge) (i .expected) (i .full) (i .toggle) r
+-- what is in the sender was accepted, and so was what is pending
+pub sent-below : {acc ld ackd : ℕ} {o : Out} → Sending acc ld ackd o → o .ready ≡ false → ackd < acc
+sent-below {o = o} s q = let r : num (o .ready) ≡ 0 = ap num q in omega arith
+
+pub pending-below : {acc ld ackd : ℕ} {o : Out} → Sending acc ld ackd o → o .pending ≡ true → ld < acc
+pending-below {o = o} s q = let r : num (o .pending) ≡ 1 = ap num q in omega arith
+
+-- The receiving half
+
+abbrev inOf : Bool → Bool → Bool → Bool → In
+inOf x k f g = record { expected = x; acknowledge = k; full = f; toggle = g }
+
+pub settle-receiving : {valid toggle : Bool} {i : In} {ent tk ha : ℕ} → ha ≤ ent → Receiving ent tk ha valid toggle i
+    → Receiving ent tk ha valid toggle (settle (releases valid i) toggle i)
+settle-receiving {valid} {toggle} {i} {ent} {tk} {ha} l r =
+    go valid (i .acknowledge) (i .expected) (i .full) (i .toggle) r
   where
-    go : (v k x f g : Bool) → Receiving ent tk ha v toggle (inOf x k f g) → Receiving ent tk ha v toggle (settle (releases v (inOf x k f g)) toggle (inOf x k f g))
+    go : (v k x f g : Bool) → Receiving ent tk ha v toggle (inOf x k f g)
+        → Receiving ent tk ha v toggle (settle (releases v (inOf x k f g)) toggle (inOf x k f g))
     go true true x f g r = r
     go true false x f g r = omega arith
     go false true x f g r = omega arith
     go false false x f g r = omega arith
 
 -- A frame with Valid v and Toggle t, made when a were acknowledged, is heard: no older than the one heard before
-module _ (ent tk ha a : ℕ) (valid toggle : Bool) (upto : a ≤ ent) where
-  pub enter-receiving : (v t : Bool) (i : In) → num t ≡ a % 2 → 2 * ha + num valid ≤ 2 * a + num v → Receiving ent tk ha valid toggle i → Receiving (ent + num (enters v t i)) tk a v t (enter (enters v t i) t i)
-  enter-receiving v t i h n r = go v t (i .full) (i .expected) (i .acknowledge) (i .toggle) h n r
+module _ {ent tk ha : ℕ} {valid toggle : Bool} (a : ℕ) (upto : a ≤ ent) (v t : Bool) (i : In) (parity : num t ≡ a % 2)
+    (newer : 2 * ha + num valid ≤ 2 * a + num v) (r : Receiving ent tk ha valid toggle i) where
+  pub enter-receiving : Receiving (ent + num (enters v t i)) tk a v t (enter (enters v t i) t i)
+  enter-receiving = go v t (i .full) (i .expected) (i .acknowledge) (i .toggle) parity newer r
     where
-      go : (v t f x k g : Bool) → num t ≡ a % 2 → 2 * ha + num valid ≤ 2 * a + num v → Receiving ent tk ha valid toggle (inOf x k f g)
-          → Receiving (ent + num (enters v t (inOf x k f g))) tk a v t (enter (enters v t (inOf x k f g)) t (inOf x k f g))
+      go : (v t f x k g : Bool) → num t ≡ a % 2 → 2 * ha + num valid ≤ 2 * a + num v
+          → Receiving ent tk ha valid toggle (inOf x k f g)
+          → Receiving (ent + num (enters v t (inOf x k f g))) tk a v t
+          (enter (enters v t (inOf x k f g)) t (inOf x k f g))
       go true true false true k g h n r = omega (arith, num-le k)
       go true true false false k g h n r = omega (arith, num-le k)
       go true false false true k g h n r = omega (arith, num-le k)
@@ -123,11 +148,12 @@ module _ (ent tk ha a : ℕ) (valid toggle : Bool) (upto : a ≤ ent) where
       go false t false x k g h n r = omega (arith, num-le k)
 
   -- what enters is the next message, and the register was empty
-  pub enters-next : (v t : Bool) (i : In) → num t ≡ a % 2 → 2 * ha + num valid ≤ 2 * a + num v → Receiving ent tk ha valid toggle i → enters v t i ≡ true → (a ≡ ent) × (tk ≡ ent) × (v ≡ true)
-  enters-next v t i h n r e = go v t (i .full) (i .expected) (i .acknowledge) (i .toggle) h n r e
+  pub enters-next : enters v t i ≡ true → (a ≡ ent) × (tk ≡ ent) × (v ≡ true)
+  enters-next = go v t (i .full) (i .expected) (i .acknowledge) (i .toggle) parity newer r
     where
-      go : (v t f x k g : Bool) → num t ≡ a % 2 → 2 * ha + num valid ≤ 2 * a + num v → Receiving ent tk ha valid toggle (inOf x k f g)
-          → enters v t (inOf x k f g) ≡ true → (a ≡ ent) × (tk ≡ ent) × (v ≡ true)
+      go : (v t f x k g : Bool) → num t ≡ a % 2 → 2 * ha + num valid ≤ 2 * a + num v
+          → Receiving ent tk ha valid toggle (inOf x k f g) → enters v t (inOf x k f g) ≡ true
+          → (a ≡ ent) × (tk ≡ ent) × (v ≡ true)
       go true true false true true g h n r e = (omega arith, omega arith, refl)
       go true true false true false g h n r e = (omega arith, omega arith, refl)
       go true true false false k g h n r e = absurd (false≢true e)
@@ -139,10 +165,11 @@ module _ (ent tk ha a : ℕ) (valid toggle : Bool) (upto : a ≤ ent) where
       go false t false x k g h n r e = absurd (false≢true e)
 
   -- a frame that carries message k, the register being empty while k is the next one, leaves k entered
-  pub enters-must : (k : ℕ) (v t : Bool) (i : In) → num t ≡ a % 2 → Receiving ent tk ha valid toggle i → k ≤ tk → 2 * k + 1 ≤ 2 * a + num v → k < ent + num (enters v t i)
-  enters-must k v t i h r b w = go v t (i .full) (i .expected) (i .acknowledge) (i .toggle) h r w
+  pub enters-must : (k : ℕ) → k ≤ tk → 2 * k + 1 ≤ 2 * a + num v → k < ent + num (enters v t i)
+  enters-must k b w = go v t (i .full) (i .expected) (i .acknowledge) (i .toggle) parity r w
     where
-      go : (v t f x n g : Bool) → num t ≡ a % 2 → Receiving ent tk ha valid toggle (inOf x n f g) → 2 * k + 1 ≤ 2 * a + num v → k < ent + num (enters v t (inOf x n f g))
+      go : (v t f x n g : Bool) → num t ≡ a % 2 → Receiving ent tk ha valid toggle (inOf x n f g)
+          → 2 * k + 1 ≤ 2 * a + num v → k < ent + num (enters v t (inOf x n f g))
       go true true false true n g h r w = omega arith
       go true true false false n g h r w = let z : a < ent = apart a ent (omega arith) upto in omega arith
       go true false false true n g h r w = let z : a < ent = apart a ent (omega arith) upto in omega arith
@@ -152,24 +179,20 @@ module _ (ent tk ha a : ℕ) (valid toggle : Bool) (upto : a ≤ ent) where
       go false t false x n g h r w = omega arith
 
 -- the host has read the register out
-pub emptied-receiving : (ent tk ha : ℕ) (valid toggle : Bool) (i : In) → i .full ≡ true → Receiving ent tk ha valid toggle i → Receiving ent (tk + 1) ha valid toggle (emptied i)
-emptied-receiving ent tk ha valid toggle i f r = go (i .full) f r
+pub emptied-receiving : {ent tk ha : ℕ} {valid toggle : Bool} {i : In} → i .full ≡ true
+    → Receiving ent tk ha valid toggle i → Receiving ent (tk + 1) ha valid toggle (emptied i)
+emptied-receiving {ent} {tk} {ha} {valid} {toggle} {i} f r = go (i .full) f r
   where
-    go : (f : Bool) → f ≡ true → Receiving ent tk ha valid toggle (inOf (i .expected) (i .acknowledge) f (i .toggle)) → Receiving ent (tk + 1) ha valid toggle (emptied i)
+    go : (f : Bool) → f ≡ true → Receiving ent tk ha valid toggle (inOf (i .expected) (i .acknowledge) f (i .toggle))
+        → Receiving ent (tk + 1) ha valid toggle (emptied i)
     go true e r = omega arith
     go false e r = absurd (false≢true e)
 
 -- what a frame made by the receiving half acknowledges
-pub acknowledge-made : (ent tk ha ackd ld : ℕ) (valid toggle : Bool) (i : In) → Receiving ent tk ha valid toggle i → 2 * ha + num valid ≤ ackd + ld → ent ≤ ld → ld ≤ ackd + 1 → ent ≤ ackd + num (i .acknowledge)
-acknowledge-made ent tk ha ackd ld valid toggle i r n u w = go (i .acknowledge) (r .entered)
+pub acknowledge-made : {ent tk ha : ℕ} {valid toggle : Bool} {i : In} (ackd ld : ℕ) → Receiving ent tk ha valid toggle i
+    → 2 * ha + num valid ≤ ackd + ld → ent ≤ ld → ld ≤ ackd + 1 → ent ≤ ackd + num (i .acknowledge)
+acknowledge-made {ent} {tk} {ha} {valid} {toggle} {i} ackd ld r n u w = go (i .acknowledge) (r .entered)
   where
     go : (k : Bool) → 2 * ent ≤ 2 * ha + num valid + num k → ent ≤ ackd + num k
     go true e = omega arith
     go false e = omega arith
-
--- what is in the sender was accepted, and so was what is pending
-pub sent-below : (acc ld ackd : ℕ) (o : Out) → Sending acc ld ackd o → o .ready ≡ false → ackd < acc
-sent-below acc ld ackd o s q = let r : num (o .ready) ≡ 0 = ap num q in omega arith
-
-pub pending-below : (acc ld ackd : ℕ) (o : Out) → Sending acc ld ackd o → o .pending ≡ true → ld < acc
-pending-below acc ld ackd o s q = let r : num (o .pending) ≡ 1 = ap num q in omega arith

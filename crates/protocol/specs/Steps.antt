@@ -1,4 +1,5 @@
--- The steps of document 01's "Sending" and "Taking" that carry messages over, on bits alone: no layout of an end, no frame.
+-- The steps of document 01's "Sending" and "Taking" that carry messages over, on bits alone: no layout of an end, no
+-- frame.
 --   num b              1 where b is set, else 0
 --   Out                the sending half: pending, ready, sending toggle, register toggle
 --   acks, stepOne      step 1's test and step 1
@@ -7,8 +8,8 @@
 --   releases, settle   settling's test and settling
 --   enters, enter      whether a frame's message enters the receive register, and its entering
 --   emptied            the host has read 3.2317
---   placed, counted    the collection's symbols and count after one more symbol s, marked where m, even where v, the count
---                      having been n
+--   placed, counted    the collection's symbols and count after one more symbol s, marked where m, even where v; the
+--                      count was n
 --   completes          that symbol is the twelfth
 -- Assumes nothing.
 use Prim.Native.Nat.{ℕ, _+_}

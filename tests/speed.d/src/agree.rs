@@ -1,0 +1,46 @@
+//! Holds the proved calls against the plain ones on random input, so that what is measured is the same work.
+
+use crate::plain::{Bitwise, Plain, Table};
+use crate::proved::Proved;
+use crate::random::Random;
+use crate::{capture, frame, Calls};
+
+const TURNS: u32 = 20_000;
+const SLOTS: [u32; 5] = [0, 1, 25, 4_800, 100_000];
+
+fn same<T: PartialEq + std::fmt::Debug>(call: &str, proved: T, others: [T; 2]) {
+    let [bitwise, table] = &others;
+    assert!(proved == *bitwise && proved == *table, "{call}: {proved:?} and {others:?}");
+}
+
+fn same_lists(list: &[u16]) {
+    same("check", Proved::check(list), [Plain::<Bitwise>::check(list), Plain::<Table>::check(list)]);
+    same("found", Proved::found(list), [Plain::<Bitwise>::found(list), Plain::<Table>::found(list)]);
+    same("place", Proved::place(list), [Plain::<Bitwise>::place(list), Plain::<Table>::place(list)]);
+}
+
+pub fn all() {
+    let mut random = Random::new(2);
+    for turn in 0..TURNS {
+        let bytes = random.bytes();
+        same("crc", Proved::crc(&bytes), [Plain::<Bitwise>::crc(&bytes), Plain::<Table>::crc(&bytes)]);
+        // Good frames, frames with one symbol changed, and lists with a frame somewhere or none.
+        let mut list = frame(&mut random).to_vec();
+        if turn % 2 == 1 {
+            list[usize::from(random.below(12))] = random.below(1030);
+        }
+        for _ in 0..turn % 5 {
+            list.insert(usize::from(random.below(2)) * list.len(), random.below(512));
+        }
+        same_lists(&list);
+    }
+    for below in [512, 1024] {
+        same_lists(&capture(&mut random, below));
+    }
+    same_lists(&[]);
+    same_lists(&[0; 4097]);
+    for count in SLOTS {
+        same("slots", Proved::slots(count), [Plain::<Bitwise>::slots(count), Plain::<Table>::slots(count)]);
+    }
+    println!("the same results on {TURNS} random lists, two captures and {} slots", SLOTS.iter().sum::<u32>());
+}

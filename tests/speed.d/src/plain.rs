@@ -1,0 +1,138 @@
+//! Document 01's frame and finder in plain Rust, written for the comparison. The CRC is either bit by bit or by a table
+//! of 512 bytes; bit 0 of its register is S15.
+
+use crate::plain_end::End;
+use crate::Calls;
+use std::marker::PhantomData;
+
+pub trait Crc {
+    fn crc(bytes: &[u8; 10]) -> u16;
+}
+
+pub struct Bitwise;
+
+pub struct Table;
+
+const fn eight_bits(mut register: u16) -> u16 {
+    let mut bit = 0;
+    while bit < 8 {
+        register = if register & 1 == 1 { register >> 1 ^ 0xA001 } else { register >> 1 };
+        bit += 1;
+    }
+    register
+}
+
+static TABLE: [u16; 256] = {
+    let mut table = [0; 256];
+    let mut byte = 0;
+    while byte < 256 {
+        table[byte] = eight_bits(byte as u16);
+        byte += 1;
+    }
+    table
+};
+
+impl Crc for Bitwise {
+    fn crc(bytes: &[u8; 10]) -> u16 {
+        bytes.iter().fold(0, |register, byte| eight_bits(register ^ u16::from(*byte)))
+    }
+}
+
+impl Crc for Table {
+    fn crc(bytes: &[u8; 10]) -> u16 {
+        bytes.iter().fold(0, |register, byte| register >> 8 ^ TABLE[usize::from((register ^ u16::from(*byte)) & 0xFF)])
+    }
+}
+
+pub fn is_even(symbol: u16) -> bool {
+    (symbol & 0x1FF).count_ones() % 2 == 0
+}
+
+pub fn build<C: Crc>(bytes: &[u8; 10]) -> [u16; 12] {
+    let [low, high] = C::crc(bytes).to_le_bytes();
+    let mut frame = [0; 12];
+    for (place, byte) in bytes.iter().chain(&[low, high]).enumerate() {
+        let symbol = u16::from(*byte);
+        frame[place] = if is_even(symbol) == (place == 0) { symbol } else { symbol | 256 };
+    }
+    frame
+}
+
+pub fn has_right_crc<C: Crc>(frame: &[u16; 12]) -> bool {
+    let mut bytes = [0; 10];
+    for (byte, symbol) in bytes.iter_mut().zip(frame) {
+        *byte = *symbol as u8;
+    }
+    C::crc(&bytes).to_le_bytes() == [frame[10] as u8, frame[11] as u8]
+}
+
+fn is_acceptable<C: Crc>(frame: &[u16; 12]) -> bool {
+    frame[0] < 512
+        && is_even(frame[0])
+        && frame[1..].iter().all(|symbol| *symbol < 512 && !is_even(*symbol))
+        && has_right_crc::<C>(frame)
+}
+
+fn check<C: Crc>(list: &[u16]) -> u8 {
+    match <&[u16; 12]>::try_from(list) {
+        Err(_) => 7,
+        Ok(_) if list.iter().any(|symbol| *symbol > 1023) => 5,
+        Ok(frame) if is_acceptable::<C>(frame) => 0,
+        Ok(_) => 9,
+    }
+}
+
+fn find<C: Crc>(list: &[u16]) -> (u8, usize) {
+    if list.len() > 4096 {
+        return (7, 0);
+    }
+    if list.iter().any(|symbol| *symbol > 1023) {
+        return (5, 0);
+    }
+    for (place, stretch) in list.windows(12).enumerate() {
+        if <&[u16; 12]>::try_from(stretch).map_or(false, is_acceptable::<C>) {
+            return (0, place);
+        }
+    }
+    (8, 0)
+}
+
+pub struct Plain<C>(PhantomData<C>);
+
+impl<C: Crc> Calls for Plain<C> {
+    fn crc(bytes: &[u8; 10]) -> u16 {
+        C::crc(bytes)
+    }
+
+    fn check(list: &[u16]) -> u8 {
+        check::<C>(list)
+    }
+
+    fn found(list: &[u16]) -> u8 {
+        find::<C>(list).0
+    }
+
+    fn place(list: &[u16]) -> usize {
+        find::<C>(list).1
+    }
+
+    /// Two ends joined with delays 0; a message is written at a and the register at b read every 48 slots.
+    fn slots(count: u32) -> u64 {
+        let plus = |sum: u64, number: u16| (sum & 0xFFFF_FFFF) * 31 + u64::from(number);
+        let (mut a, mut b, mut sum) = (End::reset(), End::reset(), 0);
+        for left in (1..=count).rev() {
+            if left % 48 == 0 {
+                let number = left as u16;
+                a.write(2309, number);
+                a.write(2308, number % 16 << 8 | 1 << 15);
+                sum = plus(plus(sum, b.read(2313).1), b.read(2317).1);
+            }
+            let (_, from_a) = a.send::<C>();
+            let (_, from_b) = b.send::<C>();
+            a.take::<C>(from_b);
+            b.take::<C>(from_a);
+            sum = plus(plus(sum, from_a), from_b);
+        }
+        sum
+    }
+}

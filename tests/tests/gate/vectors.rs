@@ -1,4 +1,4 @@
-//! The scripts in `vectors/` and what a separately written implementation printed for them.
+//! The scripts in `vectors/` and what a separately written implementation printed for them, and the script in `docs/`.
 
 use crate::{proved_prints, tell};
 use second::console;
@@ -27,6 +27,13 @@ fn vectors() -> Vec<(String, Vec<u8>, Vec<u8>)> {
         ));
     }
     assert_eq!(found.len(), 8);
+    // the story that the README plays is held to its output as well
+    let docs = Path::new(env!("CARGO_MANIFEST_DIR")).join("../docs");
+    found.push((
+        "docs/freeze".to_string(),
+        fs::read(docs.join("freeze.txt")).expect("docs/freeze.txt can be read"),
+        fs::read(docs.join("freeze.out")).expect("docs/freeze.out can be read"),
+    ));
     found
 }
 

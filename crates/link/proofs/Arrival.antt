@@ -6,22 +6,22 @@
 --   arrival-heard     the frame is heard
 -- Assumes nothing.
 use Prim.Native.Nat.{ℕ, suc, _+_, _*_, _%_, _≤_, _<_}
-use mathlib.Core.Bool.{Bool, true, false, not, _&&_, _||_, false≢true}
+use mathlib.Core.Bool.{Bool, true, false, not, _||_, false≢true}
 use mathlib.Core.List.{List}
 use mathlib.Core.Path.{_≡_, refl, sym, ap, _∙_, subst}
 use native.Mathlib.Nat.{mod-eq-of-lt}
 use native.Mathlib.Omega.{arith}
-use lib.ListN.{length, getD}
+use lib.ListN.{length}
 use borrow.Author.Tests.{lt-ltb}
 use Rattle.end.specs.Taking.{accepts, taken, counted}
 use Rattle.endlaws.proofs.Goods.{good}
-use Rattle.link.specs.Link.{Side, Harm, sound, mark, harmed, takes, arrive, arrives}
+use Rattle.link.specs.Link.{Side, Harm, sound, mark, takes, arrive, arrives, arriving}
 use Rattle.link.specs.Demand.{isSound}
 use Rattle.link.proofs.Cells.{Cell, cellAt, frameAt, rank, symbolIn}
 use Rattle.link.proofs.Collecting.{Next, line-next, sound-counted, sound-accepts}
 use Rattle.link.proofs.Inv.{Inv}
 use Rattle.link.proofs.TakeStep.{tookAs, takes-as, took-entered}
-use Rattle.link.proofs.SlotStep.{sent-symbol, sent-length, harm-took}
+use Rattle.link.proofs.SlotStep.{sent-symbol, sent-length, harm-took, completed}
 use Rattle.link.proofs.Progress.{InStep}
 
 abbrev pub Clear : ℕ → Harm → Side → Type 0
@@ -53,7 +53,7 @@ module _ {a b : Side} {ca cb : List Cell} {D E pa pb : ℕ} (v : Inv a b ca cb (
     arrives-as : arrive D h a b ≡ tookAs (symbolIn y) b
     arrives-as =
         ap (λ (x : Harm). arrive D x a b) harm-is
-        ∙ ap (λ (t : Bool). takes t (getD (a .sent) D 0) b) does-arrive
+        ∙ ap (λ (t : Bool). takes t (arriving D (a .sent)) b) does-arrive
         ∙ ap (λ (s : ℕ). takes true s b) (sent-symbol (v .fit-a .sender) D there)
         ∙ takes-as (symbolIn y) b (v .fit-b .good) (harm-took v there sound .0)
 
@@ -88,7 +88,7 @@ module _ {a b : Side} {ca cb : List Cell} {D E pa pb : ℕ} (v : Inv a b ca cb (
           subst (λ (x : Side). k < length (x .entered)) (sym arrives-as)
           (took-entered v (symbolIn y) (harm-took v there sound .1) k accepted m r)
 
-      pub arrival-heard : (arrives D (a .sent) && accepts (harmed h (getD (a .sent) D 0)) (b .end .collector)) ≡ true
+      pub arrival-heard : completed D h a b ≡ true
       arrival-heard = rw (does-arrive, harm-is, sent-symbol (v .fit-a .sender) D there) accepted
 
   pub arrival-step : InStep (arrive D h a b .end .collector) ca D n₀ (length ca)

@@ -1,3 +1,4 @@
+pub mod Computed
 pub mod Views
 pub mod Words
 pub mod Cells

@@ -1,4 +1,8 @@
--- Logs as parts of what was accepted: one message more in the part, or in the whole. Assumes nothing.
+-- Logs as parts of what was accepted.
+--   length-more   a log with one message more
+--   part-more     the part gets the next message of the whole
+--   part-grows    the whole grows behind the part
+-- Assumes nothing.
 use Prim.Native.Nat.{suc, _≤_, _<_}
 use mathlib.Core.List.{List, [], _∷_, _++_}
 use mathlib.Core.Path.{_≡_, sym, ap, _∙_}

@@ -1,6 +1,6 @@
 -- A host reads, by the rule: the invariant is kept, and what is read out of the receive register is the next message.
 --   readBy      a side after a read, by the tests of the register number and the value read
---   read-kept
+--   read-kept   the invariant after a read by the rule
 -- Assumes nothing.
 use Prim.Native.Nat.{ℕ, zero, suc, _+_, _-_, _*_, _/_, _%_, _≤_, _<_}
 use mathlib.Core.Bool.{Bool, true, false, not, cond, _||_, false≢true}

@@ -1,4 +1,5 @@
 -- The rule of a run is document 01's, and what is taken is what the host read.
+--   ruled-append  a run is by the rule exactly when its beginning is, and then its continuation
 --   keeps h l     the reads l keep the rule of Link.antt, for a host that is at h
 --   logged h l    the messages that they take
 --   ruled-both, taken-logged   a run's rule and log are those of its reads
@@ -20,7 +21,7 @@ use Rattle.end.specs.Registers.{readOf}
 use Rattle.endlaws.proofs.Base.{cond-true, cond-false, and-both}
 use Rattle.link.specs.Link.{Message, Host, Side, World, Access, read, write, health, present, receiveSide}
 use Rattle.link.specs.Link.{ruledCall, advance, pickHost, messageRead, hosted, takes, sends}
-use Rattle.link.specs.Link.{Event, slot, atA, atB, step, resetSide, start, run, ruled}
+use Rattle.link.specs.Link.{Event, slot, atA, atB, step, ruledStep, resetSide, start, run, ruled}
 use Rattle.link.specs.Demand.{Direction, aToB, bToA, far}
 use Rattle.link.specs.Rule.{Read, gave, readsBy, reads, bit15, Takes, none, looked, took, begun}
 use Rattle.link.specs.Rule.{messageOf, messages, RuleIs, TakenIs}
@@ -102,6 +103,15 @@ and-swap false false z = refl
 and-right : (x y z : Bool) → (x && (y && z)) ≡ ((x && y) && z)
 and-right true y z = refl
 and-right false y z = refl
+
+-- a run by the rule, continued by the rule
+pub ruled-append : (D E : ℕ) (es fs : List Event) (w : World)
+    → ruled D E (es ++ fs) w ≡ (ruled D E es w && ruled D E fs (run D E es w))
+unfolding ruled run
+ruled-append D E [] fs w = refl
+ruled-append D E (e ∷ es) fs w =
+    let x = step D E e w in
+    rw (ruled-append D E es fs x) (and-right (ruledStep e w) (ruled D E es x) (ruled D E fs (run D E es x)))
 
 module _ (D E : ℕ) where
   -- the host that takes the messages of direction d keeps the rule

@@ -1,8 +1,9 @@
 -- A slot in which nothing that arrives is marked: the message goes on by the schedule.
---   slot-progress
+--   last-place      when the last symbol of a frame arrives
+--   slot-progress   what has happened after one slot more
 -- Assumes nothing.
 use Prim.Native.Nat.{ℕ, zero, suc, _+_, _*_, _%_, _≤_, _<_}
-use mathlib.Core.Bool.{Bool, true, false, cond, _&&_, false≢true}
+use mathlib.Core.Bool.{Bool, true, false, cond, false≢true}
 use mathlib.Core.List.{List, _∷_}
 use mathlib.Core.Path.{_≡_, refl, sym, ap, _∙_, subst}
 use native.Mathlib.Nat.{le-refl, le-trans, le-of-eq}
@@ -11,16 +12,16 @@ use lib.Dec.{eqb, ltb}
 use lib.ListN.{length, getD}
 use borrow.Author.Tests.{ltb-true, ltb-false, eqb-false, eq-eqb}
 use Rattle.end.specs.declared.Collector.{Collector}
-use Rattle.end.specs.Taking.{accepts, takeOf}
+use Rattle.end.specs.Taking.{takeOf}
 use Rattle.endlaws.proofs.Left.{send-leaves}
-use Rattle.link.specs.Link.{Message, Side, Harm, harmed, arrives, arrive, takes, sends}
+use Rattle.link.specs.Link.{Message, Side, Harm, harmed, arrives, arriving, arrive, takes, sends}
 use Rattle.link.specs.Link.{loadsNow, acksNow, entersNow, messageIn}
 use Rattle.link.proofs.Cells.{Cell, cellAt, frameAt, rank, Line}
 use Rattle.link.proofs.Way.{nothing}
 use Rattle.link.proofs.Inv.{Inv, exchanged}
 use Rattle.link.proofs.Sent.{sends-as, cellSent}
 use Rattle.link.proofs.SendStep.{more, new-loads, acknowledged-is}
-use Rattle.link.proofs.SlotStep.{cellOf, hears, both-sent}
+use Rattle.link.proofs.SlotStep.{cellOf, completed, hears, both-sent}
 use Rattle.link.proofs.Progress.{Schedule, InStep, Prog, longer}
 use Rattle.link.proofs.Arrival.{Clear, arrival-step, arrival-entered, arrival-heard}
 
@@ -137,7 +138,7 @@ module _ {a b : Side} {ca cb : List Cell} {D E pa pb k n₀ t₁ t₂ t₃ : ℕ
     entered-by h =
         now-or-before (k < length (b′ .entered)) (t₁ + 11 + D) n (omega arith)
         (λ l. le-trans (g .entered (omega arith))
-        (takes-longer (arrives D (sends a .sent)) (harmed hb (getD (sends a .sent) D 0)) (sends b)))
+        (takes-longer (arrives D (sends a .sent)) (harmed hb (arriving D (sends a .sent))) (sends b)))
         (λ e.
         let there : D < suc n = omega arith in
         arrival-entered (both-sent v) n₀ step-b hb clear-b there
@@ -145,12 +146,9 @@ module _ {a b : Side} {ca cb : List Cell} {D E pa pb k n₀ t₁ t₂ t₃ : ℕ
         (ranks-by D (omega arith)))
 
     heard-by : t₂ + 12 + E ≤ suc n → k < hears E ha (sends b) (sends a) cb′ pa
-    heard-by h = go accepted refl
+    heard-by h = go (completed E ha (sends b) (sends a)) refl
       where
-        accepted : Bool
-        accepted = arrives E (sends b .sent) && accepts (harmed ha (getD (sends b .sent) E 0)) (sends a .end .collector)
-
-        go : (t : Bool) → accepted ≡ t → k < cond t (frameAt cb′ E .entered) pa
+        go : (t : Bool) → completed E ha (sends b) (sends a) ≡ t → k < cond t (frameAt cb′ E .entered) pa
         go true q = answers-by E (omega arith)
         go false q =
             now-or-before (k < pa) (t₂ + 11 + E) n (omega arith)
@@ -180,7 +178,7 @@ module _ {a b : Side} {ca cb : List Cell} {D E pa pb k n₀ t₁ t₂ t₃ : ℕ
     }
       where
         near : Logs a′ (sends a)
-        near = takes-logs (arrives E (sends b .sent)) (harmed ha (getD (sends b .sent) E 0)) (sends a)
+        near = takes-logs (arrives E (sends b .sent)) (harmed ha (arriving E (sends b .sent))) (sends a)
 
         far : Logs b′ (sends b)
-        far = takes-logs (arrives D (sends a .sent)) (harmed hb (getD (sends a .sent) D 0)) (sends b)
+        far = takes-logs (arrives D (sends a .sent)) (harmed hb (arriving D (sends a .sent))) (sends b)

@@ -1,5 +1,6 @@
 -- A slot: both send, then both take what arrives. The invariant is kept, with one cell more on each line.
 --   harm-took     what arrives of a cell is a symbol, and is taken
+--   completed     what arrives at b makes a frame accepted
 --   hears         how many had entered when the frame was made that is heard last, after what arrives
 --   arrive-kept   what arrives at one side, marked or not, or nothing
 --   cellOf        the cell that a side sends in a slot
@@ -20,7 +21,7 @@ use Rattle.endlaws.specs.Calls.{Call}
 use Rattle.endlaws.specs.Shape.{Shaped}
 use Rattle.endlaws.proofs.Shapes.{after-shaped}
 use Rattle.endlaws.proofs.Goods.{good, after-good}
-use Rattle.link.specs.Link.{Side, Harm, sound, mark, harmed, takes, arrives, arrive, sends}
+use Rattle.link.specs.Link.{Side, Harm, sound, mark, harmed, takes, arrives, arriving, arrive, sends}
 use Rattle.link.proofs.Cells.{Cell, none, cellAt, frameAt, symbolIn, Sender}
 use Rattle.link.proofs.Collecting.{Took, line-next, sound-took, marked-took}
 use Rattle.link.proofs.Way.{onward-older, back-older}
@@ -36,15 +37,17 @@ getD-symbol (c ∷ cs) (suc i) h = getD-symbol cs i (omega arith)
 
 -- what was sent d slots ago is a symbol of the line
 pub sent-symbol : {p : ℕ} {l sent : List ℕ} {cs : List Cell} → Sender p l sent cs → (d : ℕ) → d < length cs
-    → getD sent d 0 ≡ symbolIn (cellAt cs d)
-sent-symbol {cs = cs} s d h = ap (λ (l : List ℕ). getD l d 0) (s .symbols) ∙ getD-symbol cs d h
+    → arriving d sent ≡ symbolIn (cellAt cs d)
+sent-symbol {cs = cs} s d h = ap (λ (l : List ℕ). arriving d l) (s .symbols) ∙ getD-symbol cs d h
 
 pub sent-length : {p : ℕ} {l sent : List ℕ} {cs : List Cell} → Sender p l sent cs → length sent ≡ length cs
 sent-length {cs = cs} s = ap (λ (l : List ℕ). length l) (s .symbols) ∙ length-map cs symbolIn
 
+abbrev pub completed : ℕ → Harm → Side → Side → Bool
+completed D h a b = arrives D (a .sent) && accepts (harmed h (arriving D (a .sent))) (b .end .collector)
+
 abbrev pub hears : ℕ → Harm → Side → Side → List Cell → ℕ → ℕ
-hears D h a b ca pb =
-    cond (arrives D (a .sent) && accepts (harmed h (getD (a .sent) D 0)) (b .end .collector)) (frameAt ca D .entered) pb
+hears D h a b ca pb = cond (completed D h a b) (frameAt ca D .entered) pb
 
 module _ {a b : Side} {ca cb : List Cell} {D E pa pb : ℕ} (v : Inv a b ca cb (suc D) E pa pb) where
   pub harm-took : D < length ca → (h : Harm) → (harmed h (symbolIn (cellAt ca D)) ≤ 1023)
@@ -101,13 +104,13 @@ module _ {a b : Side} {ca cb : List Cell} {D E pa pb : ℕ} (v : Inv a b ca cb (
   arrive-kept h = go (arrives D (a .sent)) refl
     where
       s : ℕ
-      s = harmed h (getD (a .sent) D 0)
+      s = harmed h (arriving D (a .sent))
 
       go : (t : Bool) → arrives D (a .sent) ≡ t
           → Inv a (takes t s b) ca cb D E pa (cond (t && accepts s (b .end .collector)) (frameAt ca D .entered) pb)
       go true t =
           let p : D < length ca = subst (λ (n : ℕ). D < n) (sent-length (v .fit-a .sender)) (ltb-true D _ t) in
-          let is : symbolIn (cellAt ca D) ≡ getD (a .sent) D 0 = sym (sent-symbol (v .fit-a .sender) D p) in
+          let is : symbolIn (cellAt ca D) ≡ arriving D (a .sent) = sym (sent-symbol (v .fit-a .sender) D p) in
           let k = harm-took p h in
           some-kept s (subst (λ (x : ℕ). harmed h x ≤ 1023) is (k .0))
           (subst (λ (x : ℕ). Took (harmed h x) (b .end .collector) (cellAt ca D)) is (k .1))
@@ -137,8 +140,8 @@ module _ {a b : Side} {ca cb : List Cell} {D E pa pb : ℕ} (v : Inv a b ca cb D
       → Inv (arrive E ha (sends b) (sends a)) (arrive D hb (sends a) (sends b)) ca′ cb′ D E
       (hears E ha (sends b) (sends a) cb′ pa) (hears D hb (sends a) (sends b) ca′ pb)
   slot-kept ha hb =
-      subst (λ (l : List ℕ). Inv (takes (arrives E l) (harmed ha (getD l E 0)) (sends a))
+      subst (λ (l : List ℕ). Inv (takes (arrives E l) (harmed ha (arriving E l)) (sends a))
       (arrive D hb (sends a) (sends b)) ca′ cb′ D E
-      (cond (arrives E l && accepts (harmed ha (getD l E 0)) (sends a .end .collector)) (frameAt cb′ E .entered) pa)
+      (cond (arrives E l && accepts (harmed ha (arriving E l)) (sends a .end .collector)) (frameAt cb′ E .entered) pa)
       (hears D hb (sends a) (sends b) ca′ pb)) (takes-sent _ _ (sends b))
       (exchanged (arrive-kept (exchanged (arrive-kept both-sent hb)) ha))

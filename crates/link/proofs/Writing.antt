@@ -1,5 +1,6 @@
 -- A host writes, or sets the health: the invariant is kept.
---   write-kept, health-kept
+--   write-kept    any write: refused, to the bytes, to 3.2308 with a message accepted or not
+--   health-kept   the health to send
 -- Assumes nothing.
 use Prim.Native.Nat.{ℕ, suc, _+_, _-_, _/_, _%_, _<_}
 use mathlib.Core.Bool.{Bool, true, false, not, cond, _&&_, _||_, false≢true, true≢false, and-true, and-false}

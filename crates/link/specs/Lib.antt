@@ -1,4 +1,5 @@
 pub mod Link
 pub mod Demand
 pub mod Tight
+pub mod Cases
 pub mod Rule

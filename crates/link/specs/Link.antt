@@ -203,8 +203,11 @@ takes false s x = x
 abbrev pub arrives : ℕ → List ℕ → Bool
 arrives d sent = ltb d (length sent)
 
+abbrev pub arriving : ℕ → List ℕ → ℕ
+arriving d sent = getD sent d 0
+
 abbrev pub arrive : ℕ → Harm → Side → Side → Side
-arrive d h from s = takes (arrives d (from .sent)) (harmed h (getD (from .sent) d 0)) s
+arrive d h from s = takes (arrives d (from .sent)) (harmed h (arriving d (from .sent))) s
 
 -- in a slot both send, then both take what arrives
 abbrev pub slotStep : ℕ → ℕ → Harm → Harm → World → World

@@ -5,7 +5,7 @@
 --   Receiving  what the receiving half says of ent and tk; the frame last heard was made when ha were acknowledged
 -- and for each step, that these are kept. Assumes nothing.
 use Prim.Native.Nat.{ℕ, _+_, _-_, _*_, _%_, _≤_, _<_}
-use mathlib.Core.Bool.{Bool, true, false, not, cond, _&&_, false≢true}
+use mathlib.Core.Bool.{Bool, true, false, not, cond, false≢true}
 use mathlib.Core.Path.{_≡_, refl, ap}
 use mathlib.Core.Logic.{_≢_}
 use native.Mathlib.Omega.{arith}
@@ -64,28 +64,29 @@ outOf p r t g = record { pending = p; ready = r; toggle = t; register = g }
 
 pub stepThree-sending : {o : Out} {acc ld ackd : ℕ} → Sending acc ld ackd o
     → Sending acc (ld + num (loads o)) ackd (stepThree (loads o) o)
-stepThree-sending {o} {acc} {ld} {ackd} s = go (o .pending) (o .ready) (o .register) (o .toggle) s
+stepThree-sending {o} {acc} {ld} {ackd} s = go (o .pending) (o .ready) (o .toggle) (o .register) s
   where
-    go : (p r g t : Bool) → Sending acc ld ackd (outOf p r t g)
-        → Sending acc (ld + num (p && r)) ackd (stepThree (p && r) (outOf p r t g))
-    go true true true t s = omega arith
-    go true true false t s = omega arith
-    go true false g t s = omega arith
-    go false r g t s = omega arith
+    go : (p r t g : Bool) → Sending acc ld ackd (outOf p r t g)
+        → Sending acc (ld + num (loads (outOf p r t g))) ackd (stepThree (loads (outOf p r t g)) (outOf p r t g))
+    go true true t true s = omega arith
+    go true true t false s = omega arith
+    go true false t g s = omega arith
+    go false true t g s = omega arith
+    go false false t g s = omega arith
 
 -- Valid stands in the frame exactly while the sender is not ready: kept by steps 1 and 3
 pub valid-sent : (a : Bool) (o : Out) → cond (loads (stepOne a o)) true (cond a false (not (o .ready)))
     ≡ not (stepThree (loads (stepOne a o)) (stepOne a o) .ready)
-valid-sent a o = go a (o .pending) (o .ready)
+valid-sent a o = go a (o .pending) (o .ready) (o .toggle) (o .register)
   where
-    go : (a p r : Bool) → cond (p && cond a true r) true (cond a false (not r))
-        ≡ not (cond (p && cond a true r) false (cond a true r))
-    go true true r = refl
-    go true false r = refl
-    go false true true = refl
-    go false true false = refl
-    go false false true = refl
-    go false false false = refl
+    go : (a p r t g : Bool) → cond (loads (stepOne a (outOf p r t g))) true (cond a false (not r))
+        ≡ not (stepThree (loads (stepOne a (outOf p r t g))) (stepOne a (outOf p r t g)) .ready)
+    go true true r t g = refl
+    go true false r t g = refl
+    go false true true t g = refl
+    go false true false t g = refl
+    go false false true t g = refl
+    go false false false t g = refl
 
 -- what a frame made by the sending half says: its Valid and the counts
 pub valid-counts : {acc ld ackd : ℕ} {o : Out} → Sending acc ld ackd o → num (not (o .ready)) + ackd ≡ ld
@@ -95,15 +96,16 @@ valid-counts {acc} {ld} {ackd} {o} s = go (o .ready) (s .loaded)
     go true e = omega arith
     go false e = omega arith
 
--- with a ready sender and a message pending, step 3 loads it
+-- a message that is accepted, and next, is loaded by step 3 at the latest
 pub loads-must : {acc ld ackd : ℕ} {o : Out} (k : ℕ) → Sending acc ld ackd o → k ≤ ackd → k < acc
     → k < ld + num (loads o)
-loads-must {acc} {ld} {ackd} {o} k s a b = go (o .pending) (o .ready) (s .accepted) (s .loaded)
+loads-must {acc} {ld} {ackd} {o} k s a b = go (o .pending) (o .ready) (o .toggle) (o .register) s
   where
-    go : (p r : Bool) → acc ≡ ld + num p → ld + num r ≡ ackd + 1 → k < ld + num (p && r)
-    go true true e f = omega arith
-    go true false e f = omega arith
-    go false r e f = omega arith
+    go : (p r t g : Bool) → Sending acc ld ackd (outOf p r t g) → k < ld + num (loads (outOf p r t g))
+    go true true t g s = omega arith
+    go true false t g s = omega arith
+    go false true t g s = omega arith
+    go false false t g s = omega arith
 
 -- what is in the sender was accepted, and so was what is pending
 pub sent-below : {acc ld ackd : ℕ} {o : Out} → Sending acc ld ackd o → o .ready ≡ false → ackd < acc
@@ -139,10 +141,12 @@ module _ {ent tk ha : ℕ} {valid toggle : Bool} (a : ℕ) (upto : a ≤ ent) (v
           → Receiving ent tk ha valid toggle (inOf x k f g)
           → Receiving (ent + num (enters v t (inOf x k f g))) tk a v t
           (enter (enters v t (inOf x k f g)) t (inOf x k f g))
-      go true true false true k g h n r = omega (arith, num-le k)
+      go true true false true true g h n r = omega arith
+      go true true false true false g h n r = omega arith
       go true true false false k g h n r = omega (arith, num-le k)
       go true false false true k g h n r = omega (arith, num-le k)
-      go true false false false k g h n r = omega (arith, num-le k)
+      go true false false false true g h n r = omega arith
+      go true false false false false g h n r = omega arith
       go true t true x k g h n r = omega (arith, num-le k)
       go false t true x k g h n r = omega (arith, num-le k)
       go false t false x k g h n r = omega (arith, num-le k)

@@ -1,0 +1,66 @@
+use native.Mathlib.Omega.{arith}
+use Rattle.bench.proofs.Laws.{element-below}
+use borrow.Author.Needs.{needs}
+use Rattle.bench.proofs.dump.sender_value.Statement.{statement}
+use Rattle.bench.proofs.dump.sender_value.Tie as tie
+
+mul-result : tie.Need-mul-result
+mul-result c = omega (arith, element-below 0 (c .match .keys1) (c .before .pre))
+
+element-copy-out-result : tie.Need-element-copy-out-result
+element-copy-out-result c = element-below 0 (c .match .keys1) (c .before .pre)
+
+wide-requires : tie.Need-wide-requires
+wide-requires c κs = search needs
+
+bit-requires : tie.Need-bit-requires
+bit-requires c κs = search needs
+
+bit-requires-2 : tie.Need-bit-requires-2
+bit-requires-2 c κs = search needs
+
+wide-requires-2 : tie.Need-wide-requires-2
+wide-requires-2 c κs = search needs
+
+wide-requires-3 : tie.Need-wide-requires-3
+wide-requires-3 c κs = search needs
+
+returns : tie.Need-returns
+returns c = search needs
+
+returns-2 : tie.Need-returns-2
+returns-2 c = search needs
+
+returns-3 : tie.Need-returns-3
+returns-3 c = search needs
+
+returns-4 : tie.Need-returns-4
+returns-4 c = search needs
+
+returns-5 : tie.Need-returns-5
+returns-5 c = search needs
+
+returns-6 : tie.Need-returns-6
+returns-6 c = search needs
+
+returns-7 : tie.Need-returns-7
+returns-7 c = search needs
+
+pub sender-value-spec : {M : Type 1} → statement M
+sender-value-spec =
+    tie.close
+    (tie.spec
+    mul-result
+    element-copy-out-result
+    wide-requires
+    bit-requires
+    bit-requires-2
+    wide-requires-2
+    wide-requires-3
+    returns
+    returns-2
+    returns-3
+    returns-4
+    returns-5
+    returns-6
+    returns-7)

@@ -1,0 +1,83 @@
+use Prim.Native.Nat.{_≤_, _-_, _+_, _*_}
+use mathlib.Core.Path.{_≡_, sym, _∙_}
+use native.Mathlib.Omega.{arith}
+use lib.ListN.{length, drop}
+use denote.Ref.{now}
+use Rattle.bench.specs.Numbers.{digitOf, numberOf}
+use Rattle.bench.proofs.Laws.{scaled, number-more, number-digits, number-large, number-end}
+use borrow.Author.Needs.{needs}
+use Rattle.bench.proofs.words.spelled.Statement.{statement}
+use Rattle.bench.proofs.words.spelled.Tie as tie
+
+abbrev Inv-loop : tie.InvT-loop
+Inv-loop word base most value₀ i₀ value i = (i ≤ length word) × (value ≤ most) × (numberOf base most value (drop i word) ≡ numberOf base most 0 word)
+
+abbrev μ-loop : tie.MeasureT-loop
+μ-loop word base most value₀ i₀ value i = length word - i
+
+loop-holds : tie.Need-loop-holds Inv-loop μ-loop
+loop-holds c = search needs
+
+shared-slice-read-digit : tie.Need-shared-slice-read-digit Inv-loop μ-loop
+shared-slice-read-digit c = search needs
+
+digit-requires : tie.Need-digit-requires Inv-loop μ-loop
+digit-requires c κs = search needs
+
+returns : tie.Need-returns Inv-loop μ-loop
+returns c = let a = c .before .before .before .before .before .before .args in
+    let l = c .before .before .before .before .loop in
+    let e = number-digits (a .base) (a .most) (l .value) (l .i) (c .before .digit .result) (now (a .word)) (omega arith) (c .before .digit .ensures .0) (c .if1 .taken) in
+    (sym e ∙ l .inv .2, tt)
+
+mul-value : tie.Need-mul-value Inv-loop μ-loop
+mul-value c = omega (arith, scaled (c .before .before .before .before .loop .value) (c .before .before .before .before .before .before .args .base) (omega arith) (omega arith))
+
+add-value : tie.Need-add-value Inv-loop μ-loop
+add-value c = omega (arith, scaled (c .before .before .before .before .loop .value) (c .before .before .before .before .before .before .args .base) (omega arith) (omega arith))
+
+returns-2 : tie.Need-returns-2 Inv-loop μ-loop
+returns-2 c = let a = c .before .before .before .before .before .before .before .args in
+    let l = c .before .before .before .before .before .loop in
+    let e = number-large (a .base) (a .most) (l .value) (l .i) (c .before .before .digit .result) (now (a .word)) (omega arith) (c .before .before .digit .ensures .0) (c .before .if1 .left) (c .if2 .taken) in
+    (sym e ∙ l .inv .2, tt)
+
+add-i : tie.Need-add-i Inv-loop μ-loop
+add-i c = search needs
+
+loop-less : tie.Need-loop-less Inv-loop μ-loop
+loop-less c = search needs
+
+loop-again : tie.Need-loop-again Inv-loop μ-loop
+loop-again c = let a = c .before .before .before .before .before .before .before .args in
+    let l = c .before .before .before .before .before .loop in
+    let e = number-more (a .base) (a .most) (l .value) (l .i) (c .before .before .digit .result) (now (a .word)) (omega arith) (c .before .before .digit .ensures .0) (c .before .if1 .left) (c .if2 .left) in
+    (omega arith, omega arith, sym e ∙ l .inv .2)
+
+cast-t14 : tie.Need-cast-t14 Inv-loop μ-loop
+cast-t14 c = search needs
+
+returns-3 : tie.Need-returns-3 Inv-loop μ-loop
+returns-3 c = let a = c .before .before .before .args in
+    let l = c .before .loop in
+    let e = number-end (a .base) (a .most) (l .value) (l .i) (now (a .word)) (omega arith) in
+    (sym e ∙ l .inv .2, l .inv .1)
+
+pub spelled-spec : {M : Type 1} → statement M
+spelled-spec =
+    tie.close
+    (tie.spec
+    Inv-loop
+    μ-loop
+    loop-holds
+    shared-slice-read-digit
+    digit-requires
+    returns
+    mul-value
+    add-value
+    returns-2
+    add-i
+    loop-less
+    loop-again
+    cast-t14
+    returns-3)

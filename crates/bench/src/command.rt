@@ -1,0 +1,141 @@
+// What a line asks for.
+use crate::call::Call;
+use crate::call::on;
+use crate::fault::Fault;
+use crate::link::Side;
+use crate::words::DECIMAL;
+use crate::words::MOST;
+use crate::words::Number;
+use crate::words::Operand;
+use crate::words::index_of;
+use crate::words::is_last;
+use crate::words::last_number;
+use crate::words::next;
+use crate::words::next_number;
+ghost use Prim.Native.Nat.{_≤_};
+ghost use lib.ListN.{length};
+ghost use Rattle.bench.specs.Bounds.{Sound};
+
+pub enum Command {
+    Wrong(Fault),
+    Link(u16, u16),
+    Slot(u16),
+    Mark(Side, u16),
+    On(Side, Call),
+}
+
+// The first words of a line, and the place of each.
+const COMMANDS: [u8; 39] = *b"link slot mark a b check find crc build";
+
+const LINK: usize = 0;
+
+const SLOT: usize = 1;
+
+const MARK: usize = 2;
+
+const A: usize = 3;
+
+const B: usize = 4;
+
+pub const CHECK: usize = 5;
+
+pub const FIND: usize = 6;
+
+pub const CRC: usize = 7;
+
+pub const BUILD: usize = 8;
+
+// The longest delay of a line.
+const LONGEST: u32 = 4096;
+
+// A line's first word: whether there is one that asks for anything, its place among the commands, and the place after it.
+pub struct First {
+    pub asks: bool,
+    pub name: usize,
+    pub after: usize,
+}
+
+// A line without a word asks for nothing, and so does one whose first word begins with #.
+pub fn first_word(line: &[u8]) -> First
+    ensures { λ r. ⌜ r .after ≤ length (now (line .entry)) ⌝ }
+{
+    let word = next(line, 0);
+    let start = word.start;
+    let after = word.end;
+    if start < after {
+        let asks = line[start] != b'#';
+        let name = index_of(&COMMANDS, &line[start..after]);
+        return First { asks, name, after };
+    }
+    First {
+        asks: false,
+        name: 0,
+        after,
+    }
+}
+
+// The command of that name, whose other words stand from a place on.
+pub fn parsed(name: usize, line: &[u8], from: usize) -> Command
+    requires { ⌜ from ≤ length (now line) ⌝ }
+    ensures { λ r. ⌜ Sound r ⌝ }
+{
+    match name {
+        LINK => link(line, from),
+        SLOT => slot(line, from),
+        MARK => mark(line, from),
+        A => on(Side::A, line, from),
+        B => on(Side::B, line, from),
+        _ => Command::Wrong(Fault::Command),
+    }
+}
+
+fn link(line: &[u8], from: usize) -> Command
+    requires { ⌜ from ≤ length (now line) ⌝ }
+    ensures { λ r. ⌜ Sound r ⌝ }
+{
+    match next_number(line, from, DECIMAL, LONGEST) {
+        Operand::Wrong(fault) => Command::Wrong(fault),
+        Operand::Number(to_b, after) => match last_number(line, after, DECIMAL, LONGEST) {
+            Number::Wrong(fault) => Command::Wrong(fault),
+            Number::Value(to_a) => Command::Link(to_b, to_a),
+        },
+    }
+}
+
+fn slot(line: &[u8], from: usize) -> Command
+    requires { ⌜ from ≤ length (now line) ⌝ }
+    ensures { λ r. ⌜ Sound r ⌝ }
+{
+    if is_last(line, from) {
+        return Command::Slot(1);
+    }
+    match last_number(line, from, DECIMAL, MOST) {
+        Number::Wrong(fault) => Command::Wrong(fault),
+        Number::Value(count) => Command::Slot(count),
+    }
+}
+
+fn mark(line: &[u8], from: usize) -> Command
+    requires { ⌜ from ≤ length (now line) ⌝ }
+    ensures { λ r. ⌜ Sound r ⌝ }
+{
+    let word = next(line, from);
+    let start = word.start;
+    let end = word.end;
+    let name = index_of(&COMMANDS, &line[start..end]);
+    match name {
+        A => mark_at(Side::A, line, end),
+        B => mark_at(Side::B, line, end),
+        _ => Command::Wrong(Fault::Command),
+    }
+}
+
+fn mark_at(side: Side, line: &[u8], from: usize) -> Command
+    requires { ⌜ from ≤ length (now line) ⌝ }
+    ensures { λ r. ⌜ Sound r ⌝ }
+{
+    match last_number(line, from, DECIMAL, MOST) {
+        Number::Wrong(fault) => Command::Wrong(fault),
+        Number::Value(count) => Command::Mark(side, count),
+    }
+}

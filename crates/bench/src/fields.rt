@@ -1,0 +1,112 @@
+// The fields of an end, by name and by place: what dump prints and set writes. A later field is one more name and place
+// here, one more value in dump and one more in set.
+use crate::words::MOST;
+use crate::words::index_of;
+ghost use mathlib.Core.Path.{_≡_};
+ghost use Prim.Native.Nat.{_≤_};
+ghost use Rattle.bench.specs.Bounds.{elementsOf};
+
+// The names, in dump's order, and the place of each.
+pub const NAMES: [u8; 263] = *b"tx position sending_toggle ready health loaded_health \
+    pending register_toggle received received_toggle number ping_tx bytes \
+    rx count \
+    present partner_health ping_got partner_ping valid toggle ack togack \
+    expected_toggle acknowledge full rx_toggle rx_number rx_bytes";
+
+pub const TX: usize = 0;
+
+pub const POSITION: usize = 1;
+
+pub const SENDING_TOGGLE: usize = 2;
+
+pub const READY: usize = 3;
+
+pub const HEALTH: usize = 4;
+
+pub const LOADED_HEALTH: usize = 5;
+
+pub const PENDING: usize = 6;
+
+pub const REGISTER_TOGGLE: usize = 7;
+
+pub const RECEIVED: usize = 8;
+
+pub const RECEIVED_TOGGLE: usize = 9;
+
+pub const NUMBER: usize = 10;
+
+pub const PING_TX: usize = 11;
+
+pub const BYTES: usize = 12;
+
+pub const RX: usize = 13;
+
+pub const COUNT: usize = 14;
+
+pub const PRESENT: usize = 15;
+
+pub const PARTNER_HEALTH: usize = 16;
+
+pub const PING_GOT: usize = 17;
+
+pub const PARTNER_PING: usize = 18;
+
+pub const VALID: usize = 19;
+
+pub const TOGGLE: usize = 20;
+
+pub const ACK: usize = 21;
+
+pub const TOGACK: usize = 22;
+
+pub const EXPECTED_TOGGLE: usize = 23;
+
+pub const ACKNOWLEDGE: usize = 24;
+
+pub const FULL: usize = 25;
+
+pub const RX_TOGGLE: usize = 26;
+
+pub const RX_NUMBER: usize = 27;
+
+pub const RX_BYTES: usize = 28;
+
+pub const FIELDS: usize = 29;
+
+// The field of a name; FIELDS or more where there is none.
+pub fn field_of(word: &[u8]) -> usize {
+    index_of(&NAMES, word)
+}
+
+// How many elements a field has: 1 where it is no array.
+pub fn elements(field: usize) -> usize
+    ensures { λ r. ⌜ r ≡ elementsOf field ⌝ }
+    ensures { λ r. ⌜ (1 ≤ r) × (r ≤ 12) ⌝ }
+{
+    match field {
+        TX => 12,
+        BYTES => 8,
+        RX => 12,
+        RX_BYTES => 8,
+        _ => 1,
+    }
+}
+
+// The largest value of a field: a symbol sixteen bits, a bool 1, any other a byte.
+pub fn largest(field: usize) -> u32
+    ensures { λ r. ⌜ r ≤ 65535 ⌝ }
+{
+    match field {
+        TX | RX => MOST,
+        POSITION
+        | HEALTH
+        | LOADED_HEALTH
+        | NUMBER
+        | BYTES
+        | COUNT
+        | PARTNER_HEALTH
+        | RX_NUMBER
+        | RX_BYTES => 255,
+        _ => 1,
+    }
+}

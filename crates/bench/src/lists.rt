@@ -1,0 +1,169 @@
+// The commands on lists: check, find, crc and build.
+use crate::command::BUILD;
+use crate::command::CHECK;
+use crate::command::CRC;
+use crate::command::FIND;
+use crate::fault::Fault;
+use crate::print;
+use crate::words::HEX;
+use crate::words::MOST;
+use crate::words::Operand;
+use crate::words::is_last;
+use crate::words::next_number;
+ghost use mathlib.Core.Path.{_≡_};
+ghost use Prim.Native.Nat.{_≤_, _+_};
+ghost use lib.ListN.{length};
+ghost use Rattle.bench.specs.Bounds.{Counted, Room};
+
+// How many numbers were read, or what was wrong with one.
+pub enum Listed {
+    Count(usize),
+    Wrong(Fault),
+}
+
+// The answer to the command of a name, whose list stands from a place on.
+pub fn answered(
+    name: usize,
+    line: &[u8],
+    from: usize,
+    symbols: &mut [u16],
+    out: &mut [u8],
+    at: usize,
+) -> usize
+    requires { ⌜ from ≤ length (now line) ⌝ }
+    requires { ⌜ Room at (now out) ⌝ }
+    ensures { λ r. ⌜ r ≤ length (now (out .exit)) ⌝ }
+{
+    let most = largest(name);
+    match read(line, from, most, symbols) {
+        Listed::Wrong(fault) => print::fault(out, at, fault),
+        Listed::Count(count) => answer(name, &symbols[0..count], out, at),
+    }
+}
+
+fn largest(name: usize) -> u32
+    ensures { λ r. ⌜ r ≤ 65535 ⌝ }
+{
+    match name {
+        CRC | BUILD => 255,
+        _ => MOST,
+    }
+}
+
+// The words from a place on, as hex numbers.
+fn read(line: &[u8], from: usize, most: u32, symbols: &mut [u16]) -> Listed
+    requires { ⌜ from ≤ length (now line) ⌝ }
+    requires { ⌜ most ≤ 65535 ⌝ }
+    ensures { λ r. ⌜ Counted r (now (symbols .exit)) ⌝ }
+{
+    let mut count = 0;
+    let mut at = from;
+    while at < line.len() {
+        if is_last(line, at) {
+            return Listed::Count(count);
+        }
+        if count >= symbols.len() {
+            return Listed::Wrong(Fault::Count);
+        }
+        match next_number(line, at, HEX, most) {
+            Operand::Wrong(fault) => {
+                return Listed::Wrong(fault);
+            }
+            Operand::Number(value, after) => {
+                symbols[count] = value;
+                count += 1;
+                at = after;
+            }
+        }
+    }
+    Listed::Count(count)
+}
+
+fn answer(name: usize, list: &[u16], out: &mut [u8], at: usize) -> usize
+    requires { ⌜ Room at (now out) ⌝ }
+    ensures { λ r. ⌜ r ≤ length (now (out .exit)) ⌝ }
+{
+    match name {
+        CHECK => check(list, out, at),
+        FIND => find(list, out, at),
+        CRC => crc(list, out, at),
+        _ => build(list, out, at),
+    }
+}
+
+fn check(list: &[u16], out: &mut [u8], at: usize) -> usize
+    requires { ⌜ Room at (now out) ⌝ }
+    ensures { λ r. ⌜ r ≤ length (now (out .exit)) ⌝ }
+{
+    let answer = frame::check(list);
+    let put = print::answer(out, at, answer);
+    print::byte(out, put, b'\n')
+}
+
+fn find(list: &[u16], out: &mut [u8], at: usize) -> usize
+    requires { ⌜ Room at (now out) ⌝ }
+    ensures { λ r. ⌜ r ≤ length (now (out .exit)) ⌝ }
+{
+    let found = finder::place(list);
+    let stretch = finder::find(list);
+    let answer = found.answer;
+    let told = print::answer(out, at, answer);
+    let placed = spaced(out, told, found.place);
+    let put = spaced(out, placed, stretch.len());
+    print::byte(out, put, b'\n')
+}
+
+// A space and a number.
+fn spaced(out: &mut [u8], at: usize, value: usize) -> usize
+    requires { ⌜ at + 21 ≤ length (now out) ⌝ }
+    ensures { λ r. ⌜ r ≤ at + 21 ⌝ }
+{
+    let put = print::byte(out, at, b' ');
+    print::decimal(out, put, value as u64)
+}
+
+fn crc(list: &[u16], out: &mut [u8], at: usize) -> usize
+    requires { ⌜ Room at (now out) ⌝ }
+    ensures { λ r. ⌜ r ≤ length (now (out .exit)) ⌝ }
+{
+    if list.len() != 10 {
+        return print::fault(out, at, Fault::Count);
+    }
+    let bytes = ten(list);
+    let crc = frame::crc(bytes);
+    let low = print::hex(out, at, crc % 256, 2);
+    let space = print::byte(out, low, b' ');
+    let high = print::hex(out, space, crc / 256, 2);
+    print::byte(out, high, b'\n')
+}
+
+fn build(list: &[u16], out: &mut [u8], at: usize) -> usize
+    requires { ⌜ Room at (now out) ⌝ }
+    ensures { λ r. ⌜ r ≤ length (now (out .exit)) ⌝ }
+{
+    if list.len() != 10 {
+        return print::fault(out, at, Fault::Count);
+    }
+    let bytes = ten(list);
+    let symbols = frame::build(bytes);
+    let mut put = at;
+    let mut i = 0;
+    while i < 12 {
+        let digits = print::hex(out, put, symbols[i], 3);
+        put = print::closing(out, digits, i, 12);
+        i += 1;
+    }
+    put
+}
+
+fn ten(list: &[u16]) -> [u8; 10]
+    requires { ⌜ length (now list) ≡ 10 ⌝ }
+{
+    let mut bytes = [0u8; 10];
+    let mut i = 0;
+    while i < 10 {
+        bytes[i] = (list[i] % 256) as u8;
+        i += 1;
+    }
+    bytes
+}

@@ -1,0 +1,136 @@
+// A line's answer.
+use crate::act;
+use crate::call::Call;
+use crate::command;
+use crate::command::Command;
+use crate::link;
+use crate::link::Link;
+use crate::link::SENT;
+use crate::link::Side;
+use crate::lists;
+use crate::print;
+ghost use Prim.Native.Nat.{_≤_};
+ghost use lib.ListN.{length};
+ghost use Rattle.bench.specs.Bounds.{SoundCall, Sound, Room};
+
+// The link after a line, and where the output goes on.
+pub struct Answered {
+    pub link: Link,
+    pub at: usize,
+}
+
+// What a line, its newline taken off, does and prints.
+pub fn answer(
+    line: &[u8],
+    link: Link,
+    sent: &mut [u16; SENT],
+    symbols: &mut [u16],
+    out: &mut [u8],
+    at: usize,
+) -> Answered
+    requires { ⌜ Room at (now out) ⌝ }
+    ensures { λ r. ⌜ r .at ≤ length (now (out .exit)) ⌝ }
+{
+    let first = command::first_word(line);
+    let name = first.name;
+    let after = first.after;
+    if first.asks {
+        return asked(name, line, after, link, sent, symbols, out, at);
+    }
+    Answered { link, at }
+}
+
+// The command of a name, whose other words stand from a place on.
+fn asked(
+    name: usize,
+    line: &[u8],
+    from: usize,
+    link: Link,
+    sent: &mut [u16; SENT],
+    symbols: &mut [u16],
+    out: &mut [u8],
+    at: usize,
+) -> Answered
+    requires { ⌜ from ≤ length (now line) ⌝ }
+    requires { ⌜ Room at (now out) ⌝ }
+    ensures { λ r. ⌜ r .at ≤ length (now (out .exit)) ⌝ }
+{
+    match name {
+        command::CHECK..=command::BUILD => {
+            let put = lists::answered(name, line, from, symbols, out, at);
+            Answered { link, at: put }
+        }
+        _ => {
+            let command = command::parsed(name, line, from);
+            perform(command, link, sent, out, at)
+        }
+    }
+}
+
+fn perform(
+    command: Command,
+    link: Link,
+    sent: &mut [u16; SENT],
+    out: &mut [u8],
+    at: usize,
+) -> Answered
+    requires { ⌜ Sound command ⌝ }
+    requires { ⌜ Room at (now out) ⌝ }
+    ensures { λ r. ⌜ r .at ≤ length (now (out .exit)) ⌝ }
+{
+    match command {
+        Command::Wrong(fault) => {
+            let put = print::fault(out, at, fault);
+            Answered { link, at: put }
+        }
+        Command::Link(to_b, to_a) => {
+            let next = link::start(to_b, to_a);
+            let put = print::text(out, at, b"ok\n");
+            Answered {
+                link: next,
+                at: put,
+            }
+        }
+        Command::Slot(count) => {
+            let next = link::after_slots(link, count, sent);
+            let put = slotted(next.slots, out, at);
+            Answered {
+                link: next,
+                at: put,
+            }
+        }
+        Command::Mark(side, count) => {
+            let next = link::with_marks(link, side, count);
+            let put = print::text(out, at, b"ok\n");
+            Answered {
+                link: next,
+                at: put,
+            }
+        }
+        Command::On(side, call) => called(link, side, call, out, at),
+    }
+}
+
+fn slotted(slots: u64, out: &mut [u8], at: usize) -> usize
+    requires { ⌜ Room at (now out) ⌝ }
+    ensures { λ r. ⌜ r ≤ length (now (out .exit)) ⌝ }
+{
+    let word = print::text(out, at, b"slot ");
+    let put = print::decimal(out, word, slots);
+    print::byte(out, put, b'\n')
+}
+
+fn called(link: Link, side: Side, call: Call, out: &mut [u8], at: usize) -> Answered
+    requires { ⌜ SoundCall call ⌝ }
+    requires { ⌜ Room at (now out) ⌝ }
+    ensures { λ r. ⌜ r .at ≤ length (now (out .exit)) ⌝ }
+{
+    let end = link::end_of(link, side);
+    let done = act::call_on(end, call, out, at);
+    let next = done.end;
+    let after = link::with_end(link, side, next);
+    Answered {
+        link: after,
+        at: done.at,
+    }
+}

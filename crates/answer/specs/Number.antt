@@ -1,6 +1,5 @@
 -- The answer numbers of document 01.
 --   numberOf a      the number of the answer a in the table
---   numberOf-same   two answers of one number are one answer
 -- Assumes nothing.
 use Prim.Native.Nat.{ℕ}
 use Rattle.answer.specs.declared.Answer.{Answer}

@@ -6,13 +6,13 @@
 --   length-front      the first k elements are at most k
 -- Assumes nothing.
 use Prim.Native.Nat.{ℕ, _+_, _-_, _*_, _^_, _≤_, _<_}
-use mathlib.Core.Path.{_≡_, refl, sym, ap, _∙_, subst}
-use mathlib.Core.Bool.{Bool, true, false, cond}
+use mathlib.Core.Path.{_≡_, refl, sym, ap, subst}
+use mathlib.Core.Bool.{Bool, true, false}
 use mathlib.Core.List.{List}
-use native.Mathlib.Nat.{mul-le-mul, pow-le-pow-right, min-le-left, le-trans}
+use native.Mathlib.Nat.{mul-le-mul, pow-le-pow-right, min-le-left}
 use native.Mathlib.Omega.{arith}
 use borrow.Author.Tests.{lt-ltb, le-ltb, le-leb, lt-leb, ltb-true, ltb-false}
-use lib.Dec.{ltb, lit≤, lit<}
+use lib.Dec.{ltb, lit<}
 use native.Mathlib.Numerals.{add-one}
 use lib.ListN.{length, take, drop, getD, length-take}
 use lib.Seq.{drop-cons, drop-length}

@@ -1,4 +1,5 @@
--- Each case of document 01's table, P1 to P11, comes out as the page says: both sides compute to the same numbers.
+-- Each case of document 01's table, P1 to P11, and each of More.antt comes out as the page says: both sides compute to the
+-- same numbers.
 -- Assumes nothing.
 use Prim.{tt}
 use mathlib.Core.Bool.{xor}
@@ -10,9 +11,10 @@ use Rattle.frame.specs.Frame.{generator, stream, crcOf, even, evenSymbol, oddSy
 use Rattle.end.specs.Good.{above, bad}
 use Rattle.end.specs.Sending.{acked, frameStart, sendOf}
 use Rattle.end.specs.Taking.{taken, takeOf}
-use Rattle.end.specs.Registers.{readOf, writeOf}
+use Rattle.end.specs.Registers.{readOf, writeOf, healthOf}
 use Rattle.link.specs.Link.{run, takes}
 use Rattle.cases.specs.Cases.{Case, P1, P2, P3, P4, P5, P6, P7, P8, P9, P10, P11, Agree, table}
+use Rattle.cases.specs.More.{Extra, Health, Ping, Toggles, Settling, more}
 
 pub table-agrees : (c : Case) → Agree (table c)
 unfolding table odd bits number oddOnes plus times shift feed crc generator stream crcOf even evenSymbol oddSymbol
@@ -29,3 +31,12 @@ table-agrees P8 = (refl, (refl, tt))
 table-agrees P9 = (refl, tt)
 table-agrees P10 = (refl, (refl, (refl, (refl, tt))))
 table-agrees P11 = (refl, (refl, tt))
+
+pub more-agrees : (c : Extra) → Agree (more c)
+unfolding more odd bits number oddOnes plus times shift feed crc generator stream crcOf even evenSymbol oddSymbol
+    symbols build crcRight noneMarked allOdd paritiesRight acceptable xor someAbove checkOf above bad acked frameStart sendOf
+    taken takeOf readOf writeOf healthOf run takes
+more-agrees Health = (refl, (refl, (refl, (refl, tt))))
+more-agrees Ping = (refl, (refl, (refl, tt)))
+more-agrees Toggles = (refl, (refl, tt))
+more-agrees Settling = (refl, (refl, tt))

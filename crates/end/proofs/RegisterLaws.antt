@@ -3,7 +3,7 @@
 --   outside-*           the numbers outside 3.2308 to 3.2317
 --   read-*, write-*     what readOf and writeOf give, for an end that answer 1 does not meet
 -- Assumes nothing.
-use Prim.Native.Nat.{ℕ, zero, suc, _+_, _≤_, _<_}
+use Prim.Native.Nat.{ℕ, zero, suc, _+_, _<_}
 use mathlib.Core.Bool.{Bool, true, false, _&&_}
 use mathlib.Core.Path.{_≡_, refl, _∙_}
 use native.Mathlib.Omega.{arith}

@@ -1,6 +1,5 @@
 -- Document 01, "The ten registers", and the health to send.
 --   outside r, readOnly r     not one of 3.2308 to 3.2317; one of 3.2313 to 3.2317
---   bitOf k v                 bit k of the register value v
 --   pair l i                  bytes 2i and 2i + 1 of l, the even byte in 7:0, the odd one in 15:8
 --   valueOf e r, readEnd e r  what reading r gives, and the end after it
 --   blocked e r v             a pending message blocks this write
@@ -114,6 +113,7 @@ writeBytes o i v = record {
   bytes = set (set (o .bytes) (2 * i) (v % 256)) (2 * i + 1) (v / 256);
 }
 
+-- one of two, field by field
 abbrev pub pickOutbox : Bool → Outbox → Outbox → Outbox
 pickOutbox b x y = record {
   pending = cond b (x .pending) (y .pending);

@@ -1,17 +1,17 @@
 -- Document 01, "Sending, one symbol a slot".
 --   bit b w          w where b is set, else 0: a bit of weight w
 --   acked e          step 1's test: the last accepted frame acknowledged what is in the sender
---   stepOne e        step 1, but for Valid, which stands in the frame
+--   stepOne a e      step 1, where its test gave a, but for Valid, which stands in the frame
 --   loads e          step 3's test: a message is pending and the sender is ready
---   wordZero, wordOne, payload    the ten data bytes of the frame made in steps 2 and 3
+--   wordZero, wordOne, tenBytes   the ten data bytes of the frame made in steps 2 and 3
 --   frameStart e     the end with the frame of position 0 made, steps 1 to 4
 --   slotOf e         the end whose symbol goes out: a frame is made at position 0
 --   movedOn e        the position moves on
 --   sendOf e         what send gives
 -- Assumes nothing.
-use Prim.Native.Nat.{ℕ, _+_, _*_, _/_, _%_}
-use mathlib.Core.Bool.{Bool, true, false, not, cond, _&&_, _||_, Bool·beq}
-use mathlib.Core.List.{List, [], _∷_, map}
+use Prim.Native.Nat.{ℕ, _+_, _/_, _%_}
+use mathlib.Core.Bool.{Bool, true, false, not, cond, _&&_, Bool·beq}
+use mathlib.Core.List.{List, _∷_, map}
 use lib.Dec.{eqb}
 use lib.ListN.{getD, take, drop}
 use Rattle.answer.specs.declared.Answer.the-variants.{Done, BadEnd}
@@ -69,7 +69,7 @@ oldBytes e = map dataOf (take 8 (drop 2 (e .sender .symbols)))
 abbrev pub wordZero : End → ℕ
 wordZero e = bit (e .heard .ping) 8 + bit (e .outbox .ping) 4 + e .sender .health
 
--- symbol 1's data: steps 1 to 3, from the end after step 1; l is step 3's test
+-- symbol 1's data: steps 1 to 3, from the end after step 1; a is step 1's test, l is step 3's
 abbrev pub wordOne : Bool → Bool → End → ℕ
 wordOne a l e =
     bit (cond l true (cond a false (oldValid e))) 128

@@ -2,10 +2,10 @@
 --   releases e     step 1's test: the last accepted frame had Valid 0, or the acknowledge is 0
 --   settled e      step 1: the receive register with expected toggle and acknowledge settled
 --   completes s c  the symbol s is the twelfth of the collection c
---   collected s c  step 2, and the emptying of step 3
+--   placed, counted, collected   step 2, and the emptying of step 3: the collection's symbols, its count, both
 --   saidBy l       what the twelve symbols l say
---   accepts s e    step 3's test: the twelfth symbol, and the CRC is right
---   enters         step 3's second test: the register empty, Valid 1, Toggle the expected one
+--   accepts s c    step 3's test: the twelfth symbol, and the CRC is right
+--   enters, entered   step 3's second test: the register empty, Valid 1, Toggle the expected one; and the entering
 --   taken s e      the three steps
 --   takeOf e s     what take gives
 -- Assumes nothing.
@@ -79,6 +79,7 @@ saidBy l = record {
 abbrev pub accepts : ℕ → Collector → Bool
 accepts s c = completes s c && crcRight (placed s c)
 
+-- one of two, field by field
 abbrev pub pickHeard : Bool → Heard → Heard → Heard
 pickHeard b x y = record {
   present = cond b (x .present) (y .present);

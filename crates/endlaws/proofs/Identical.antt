@@ -1,15 +1,46 @@
 -- Any two results that satisfy one statement are identical.
---   identical       every call's contract is an equation, `result ≡ callOf ..`, so two results that satisfy it are one
+--   CALL-identical  any two results that the call's contract allows for the same arguments; `Post` is the contract as it
+--                   stands in the source
 --   numberOf-same   two answers of one number are one answer
 -- Assumes nothing.
 use Prim.Native.Nat.{ℕ, zero, suc}
 use mathlib.Core.Path.{_≡_, refl, sym, ap, _∙_}
+use Rattle.frame.proofs.Identical.{Identical}
+use Rattle.end.proofs.End.reset.Reads as reset
+use Rattle.end.proofs.End.send.Reads as send
+use Rattle.end.proofs.End.take.Reads as take
+use Rattle.end.proofs.End.read.Reads as read
+use Rattle.end.proofs.End.write.Reads as write
+use Rattle.end.proofs.End.set_health.Reads as health
+use Rattle.end.proofs.End.present.Reads as present
+use Rattle.answer.proofs.number.Reads as number
 use Rattle.answer.specs.Number.{numberOf}
 use Rattle.answer.specs.declared.Answer.{Answer}
 use Rattle.answer.specs.declared.Answer.the-variants.{Done, BadEnd, NoRegister, ReadOnly, Blocked, BadSymbol, BadHealth, BadLength, NothingFound, NotAcceptable}
 
-pub identical : {A : Type 0} {result other given : A} → result ≡ given → other ≡ given → result ≡ other
-identical p q = p ∙ sym q
+pub reset-identical : Identical reset.Post
+reset-identical κs a x y s e f = e ∙ sym f
+
+pub send-identical : Identical send.Post
+send-identical κs a x y s e f = e ∙ sym f
+
+pub take-identical : Identical take.Post
+take-identical κs a x y s e f = e ∙ sym f
+
+pub read-identical : Identical read.Post
+read-identical κs a x y s e f = e ∙ sym f
+
+pub write-identical : Identical write.Post
+write-identical κs a x y s e f = e ∙ sym f
+
+pub health-identical : Identical health.Post
+health-identical κs a x y s e f = e ∙ sym f
+
+pub present-identical : Identical present.Post
+present-identical κs a x y s e f = e ∙ sym f
+
+pub number-identical : Identical number.Post
+number-identical κs a x y s e f = e ∙ sym f
 
 from : ℕ → Answer
 from zero = Done

@@ -4,7 +4,7 @@
 --   oddOnes bs   there is an odd number of ones among bs
 -- Assumes nothing.
 use Prim.Native.Nat.{ℕ, zero, suc, _+_, _*_, _/_, _%_}
-use mathlib.Core.Bool.{Bool, true, false, cond, xor}
+use mathlib.Core.Bool.{Bool, false, cond, xor}
 use mathlib.Core.List.{List, [], _∷_}
 use lib.Dec.{eqb}
 

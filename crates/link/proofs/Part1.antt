@@ -2,7 +2,7 @@
 --   nothing-lost   after every run, each way
 -- Assumes nothing.
 use Prim.Native.Nat.{ℕ, _+_, _≤_, _<_}
-use mathlib.Core.Bool.{Bool, true, false}
+use mathlib.Core.Bool.{Bool, true, false, cond}
 use mathlib.Core.List.{List, _∷_, [], _++_, append-assoc, append-nil}
 use mathlib.Core.Path.{_≡_, refl, sym, ap, _∙_, subst}
 use native.Mathlib.Nat.{add-zero}
@@ -14,7 +14,7 @@ use lib.Seq.{take-suc, take-all}
 use borrow.Author.Tests.{ltb-true, ltb-false}
 use Rattle.protocol.specs.Steps.{num}
 use Rattle.protocol.proofs.Keeps.{pending-below}
-use Rattle.link.specs.Link.{Message, Side, World, messageIn, start, run}
+use Rattle.link.specs.Link.{Message, Side, World, messageOut, messageIn, start, run}
 use Rattle.link.specs.Demand.{place, pendingIn, messageSent, senderHolds, registerHolds, most, InTurn}
 use Rattle.link.specs.Demand.{Direction, aToB, bToA, near, far, NothingLost}
 use Rattle.link.proofs.Cells.{Cell}
@@ -35,6 +35,14 @@ take-place acc n false m h = append-nil (take n acc) ∙ ap (λ (k : ℕ). take 
 place-length : (b : Bool) (m : Message) → length (place b m) ≤ 1
 place-length true m = omega arith
 place-length false m = omega arith
+
+place-num : (b : Bool) (m : Message) → num b ≡ length (place b m)
+place-num true m = refl
+place-num false m = refl
+
+unready : (r : Bool) (ld ackd : ℕ) → ld + num r ≡ ackd + 1 → ld ≡ ackd + cond r 0 1
+unready true ld ackd e = omega arith
+unready false ld ackd e = omega arith
 
 module _ {a b : Side} {ca cb : List Cell} {D E pa pb : ℕ} (v : Inv a b ca cb D E pa pb) where
   abbrev acc : List Message
@@ -106,6 +114,8 @@ module _ {a b : Side} {ca cb : List Cell} {D E pa pb : ℕ} (v : Inv a b ca cb D
         (place-length (ltb ent (a .loaded)) _) (place-length (a .end .outbox .pending) _);
     entered = v .ab .filling .entered-is ∙ sym register;
     acknowledged = acknowledged-entered v;
+    loaded = count ∙ ap (λ (n : ℕ). a .loaded + n) (place-num (a .end .outbox .pending) (messageOut (a .end)));
+    ready = unready (a .end .sender .ready) (a .loaded) (a .acknowledged) (v .ab .holding .sending .loaded);
   }
     where
       three : {x y r s p : ℕ} → x ≡ r + y → y ≡ s + p → r ≤ 1 → s ≤ 1 → p ≤ 1 → x ≤ most

@@ -50,12 +50,15 @@ abbrev pub most : ℕ
 most = 3
 
 -- the messages taken are the first so many of those accepted, and all others stand in the three places; what entered is
--- what was taken and what stands in the register; no more are acknowledged than entered
+-- what was taken and what stands in the register; no more are acknowledged than entered; and the counts of the log are
+-- those of the end: all but a pending one were loaded, all but one that the sender is not ready after were acknowledged
 pub record InTurn (near far : Side) : Type 0 where
   pub whole : near .accepted ≡ far .taken ++ held near far
   pub few : length (held near far) ≤ most
   pub entered : far .entered ≡ far .taken ++ registerHolds far
   pub acknowledged : near .acknowledged ≤ length (far .entered)
+  pub loaded : length (near .accepted) ≡ near .loaded + length (pendingIn near)
+  pub ready : near .loaded ≡ near .acknowledged + cond (near .end .sender .ready) 0 1
 
 -- Both ways
 

@@ -96,6 +96,7 @@ advance r v h = record {
   bytes = cond (eqb r 2313) [] (h .bytes ++ (v % 256 ∷ v / 256 ∷ []));
 }
 
+-- one of two, field by field
 abbrev pub pickHost : Bool → Host → Host → Host
 pickHost b x y = record {
   stage = cond b (x .stage) (y .stage);

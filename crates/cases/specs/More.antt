@@ -1,0 +1,47 @@
+-- What P1 to P11 leave out, worked out by hand from document 01's sentences: the bits that carry no message, the second
+-- acknowledgement, and how long an acknowledgement lasts.
+--   sentBack es   the symbols that the far end has sent, the first one first
+--   more          the rows of each case
+-- Assumes nothing.
+use Prim.Native.Nat.{ℕ}
+use native.Mathlib.Omega.{arith}
+use mathlib.Core.List.{List, [], _∷_, _++_, reverse}
+use lib.ListN.{drop}
+use Rattle.link.specs.Link.{Access, Event, start, run}
+use Rattle.cases.specs.Cases.{Row, row, near, far, sent, read, control, report, slots}
+
+pub data Extra : Type 0 where
+  Health Ping Toggles Settling : Extra
+
+abbrev pub sentBack : List Event → List ℕ
+sentBack es = reverse (run 0 0 es start .b .sent)
+
+-- the near end's health is 3 and its PingTx 1, the far end's health 2
+abbrev pub pinged : List Event
+pinged = control 0x0004 (omega arith) ++ (Event.atA (Access.health 3) ∷ Event.atB (Access.health 2) ∷ [])
+
+-- P7's message is acknowledged and read out, and a second one as well
+abbrev pub twice : List Event
+twice =
+    report ++ (slots 25 ++ (Event.atB (Access.read 2317) ∷ control 0x8500 (omega arith) ++ slots 36))
+
+unfoldable pub more : Extra → List Row
+more Health =
+    row (read 2308 (near pinged)) (0 ∷ 0x0004 ∷ [])
+    ∷ row (read 2308 (near (pinged ++ slots 1))) (0 ∷ 0x0007 ∷ [])
+    ∷ row (read 2313 (far (pinged ++ slots 12))) (0 ∷ 0x0003 ∷ [])
+    ∷ row (read 2313 (near (pinged ++ slots 12))) (0 ∷ 0x0002 ∷ [])
+    ∷ []
+more Ping =
+    row (sent (pinged ++ slots 1)) (0x107 ∷ [])
+    ∷ row (drop 12 (sentBack (pinged ++ slots 13))) (0x00A ∷ [])
+    ∷ row (read 2308 (near (pinged ++ slots 24))) (0 ∷ 0x000F ∷ [])
+    ∷ []
+more Toggles =
+    row (read 2308 (near twice)) (0 ∷ 0x3500 ∷ [])
+    ∷ row (read 2308 (near (twice ++ (Event.atA (Access.read 2308) ∷ [])))) (0 ∷ 0x1500 ∷ [])
+    ∷ []
+more Settling =
+    row (drop 37 (sentBack (report ++ slots 38))) (0x020 ∷ [])
+    ∷ row (drop 49 (sentBack (report ++ slots 50))) (0x100 ∷ [])
+    ∷ []

@@ -3,7 +3,8 @@
 -- Assumes nothing.
 use Prim.Native.Nat.{ℕ}
 use Rattle.answer.specs.declared.Answer.{Answer}
-use Rattle.answer.specs.declared.Answer.the-variants.{Done, BadEnd, NoRegister, ReadOnly, Blocked, BadSymbol, BadHealth, BadLength, NothingFound, NotAcceptable}
+use Rattle.answer.specs.declared.Answer.the-variants.{Done, BadEnd, NoRegister, ReadOnly, Blocked}
+use Rattle.answer.specs.declared.Answer.the-variants.{BadSymbol, BadHealth, BadLength, NothingFound, NotAcceptable}
 
 abbrev pub numberOf : Answer → ℕ
 numberOf Done = 0

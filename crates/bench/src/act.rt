@@ -5,9 +5,9 @@ use crate::print;
 use crate::set;
 use end::End;
 use end::Next;
-ghost use Prim.Native.Nat.{_≤_, _<_, _+_};
+ghost use Prim.Native.Nat.{_≤_, _+_};
 ghost use lib.ListN.{length};
-ghost use Rattle.bench.specs.Bounds.{elementsOf, SoundCall, Room};
+ghost use Rattle.bench.specs.Bounds.{Room};
 
 // The end after a call, and where the output goes on.
 pub struct Called {
@@ -15,8 +15,8 @@ pub struct Called {
     pub at: usize,
 }
 
+// A call on an end, and its line.
 pub fn call_on(end: End, call: Call, out: &mut [u8], at: usize) -> Called
-    requires { ⌜ SoundCall call ⌝ }
     requires { ⌜ Room at (now out) ⌝ }
     ensures { λ r. ⌜ r .at ≤ length (now (out .exit)) ⌝ }
 {
@@ -108,7 +108,6 @@ fn dump_of(end: End, out: &mut [u8], at: usize) -> Called
 }
 
 fn set_field(end: End, field: usize, i: usize, value: u16, out: &mut [u8], at: usize) -> Called
-    requires { ⌜ i < elementsOf field ⌝ }
     requires { ⌜ Room at (now out) ⌝ }
     ensures { λ r. ⌜ r .at ≤ length (now (out .exit)) ⌝ }
 {

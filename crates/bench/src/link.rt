@@ -135,8 +135,8 @@ struct Arrival {
     line: Line,
 }
 
-// An end takes what arrives in this slot, if anything does; what its line carries is kept from a place on. A mark keeps the
-// symbol's nine bits.
+// An end takes what arrives in this slot, if anything does; what its line carries is kept from a place on. A mark keeps
+// the symbol's nine bits, and is used up by a take that is refused too.
 fn arrive(end: End, line: Line, now: u64, from: usize, sent: &[u16; SENT]) -> Arrival
     requires { ⌜ from ≤ 8192 ⌝ }
 {

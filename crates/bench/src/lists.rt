@@ -7,9 +7,9 @@ use crate::fault::Fault;
 use crate::print;
 use crate::words::HEX;
 use crate::words::MOST;
-use crate::words::Operand;
-use crate::words::is_last;
-use crate::words::next_number;
+use crate::words::Number;
+use crate::words::next;
+use crate::words::spelled;
 ghost use mathlib.Core.Path.{_≡_};
 ghost use Prim.Native.Nat.{_≤_, _+_};
 ghost use lib.ListN.{length};
@@ -41,6 +41,7 @@ pub fn answered(
     }
 }
 
+// The largest number of a command's list.
 fn largest(name: usize) -> u32
     ensures { λ r. ⌜ r ≤ 65535 ⌝ }
 {
@@ -59,26 +60,30 @@ fn read(line: &[u8], from: usize, most: u32, symbols: &mut [u16]) -> Listed
     let mut count = 0;
     let mut at = from;
     while at < line.len() {
-        if is_last(line, at) {
+        let word = next(line, at);
+        let start = word.start;
+        let end = word.end;
+        if start >= end {
             return Listed::Count(count);
         }
         if count >= symbols.len() {
             return Listed::Wrong(Fault::Count);
         }
-        match next_number(line, at, HEX, most) {
-            Operand::Wrong(fault) => {
+        match spelled(&line[start..end], HEX, most) {
+            Number::Wrong(fault) => {
                 return Listed::Wrong(fault);
             }
-            Operand::Number(value, after) => {
+            Number::Value(value) => {
                 symbols[count] = value;
                 count += 1;
-                at = after;
+                at = end;
             }
         }
     }
     Listed::Count(count)
 }
 
+// The answer to the command of a name on its list.
 fn answer(name: usize, list: &[u16], out: &mut [u8], at: usize) -> usize
     requires { ⌜ Room at (now out) ⌝ }
     ensures { λ r. ⌜ r ≤ length (now (out .exit)) ⌝ }
@@ -150,12 +155,13 @@ fn build(list: &[u16], out: &mut [u8], at: usize) -> usize
     let mut i = 0;
     while i < 12 {
         let digits = print::hex(out, put, symbols[i], 3);
-        put = print::closing(out, digits, i, 12);
+        put = print::closing(out, digits, i == 11);
         i += 1;
     }
     put
 }
 
+// Ten numbers as bytes.
 fn ten(list: &[u16]) -> [u8; 10]
     requires { ⌜ length (now list) ≡ 10 ⌝ }
 {

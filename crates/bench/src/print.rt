@@ -1,4 +1,4 @@
-// Writing into the output. Each call says where the output goes on, and asks for room beforehand, so nothing is dropped.
+// Writing into the output. Each call says where the output goes on, and asks for room beforehand: nothing is dropped.
 use crate::fault::Fault;
 use answer::Answer;
 use bytes::scan;
@@ -78,15 +78,15 @@ fn places(value: u16) -> usize
     }
 }
 
-// What stands after number i of so many: a space, and after the last a newline.
-pub fn closing(out: &mut [u8], at: usize, i: usize, count: usize) -> usize
-    requires { ⌜ (at < length (now out)) × (i < count) ⌝ }
+// What stands after one of several words: a space, and after the last a newline.
+pub fn closing(out: &mut [u8], at: usize, last: bool) -> usize
+    requires { ⌜ at < length (now out) ⌝ }
     ensures { λ r. ⌜ r ≡ at + 1 ⌝ }
 {
-    if i + 1 < count {
-        return byte(out, at, b' ');
+    if last {
+        return byte(out, at, b'\n');
     }
-    byte(out, at, b'\n')
+    byte(out, at, b' ')
 }
 
 // An answer's number.

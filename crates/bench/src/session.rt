@@ -11,7 +11,7 @@ use crate::lists;
 use crate::print;
 ghost use Prim.Native.Nat.{_≤_};
 ghost use lib.ListN.{length};
-ghost use Rattle.bench.specs.Bounds.{SoundCall, Sound, Room};
+ghost use Rattle.bench.specs.Bounds.{Room};
 
 // The link after a line, and where the output goes on.
 pub struct Answered {
@@ -67,6 +67,7 @@ fn asked(
     }
 }
 
+// A command is done, and its line printed.
 fn perform(
     command: Command,
     link: Link,
@@ -74,7 +75,6 @@ fn perform(
     out: &mut [u8],
     at: usize,
 ) -> Answered
-    requires { ⌜ Sound command ⌝ }
     requires { ⌜ Room at (now out) ⌝ }
     ensures { λ r. ⌜ r .at ≤ length (now (out .exit)) ⌝ }
 {
@@ -111,6 +111,7 @@ fn perform(
     }
 }
 
+// The line after slots.
 fn slotted(slots: u64, out: &mut [u8], at: usize) -> usize
     requires { ⌜ Room at (now out) ⌝ }
     ensures { λ r. ⌜ r ≤ length (now (out .exit)) ⌝ }
@@ -120,8 +121,8 @@ fn slotted(slots: u64, out: &mut [u8], at: usize) -> usize
     print::byte(out, put, b'\n')
 }
 
+// A call on the end of a side.
 fn called(link: Link, side: Side, call: Call, out: &mut [u8], at: usize) -> Answered
-    requires { ⌜ SoundCall call ⌝ }
     requires { ⌜ Room at (now out) ⌝ }
     ensures { λ r. ⌜ r .at ≤ length (now (out .exit)) ⌝ }
 {

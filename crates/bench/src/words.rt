@@ -4,7 +4,7 @@ use bytes::scan;
 ghost use mathlib.Core.Path.{_≡_};
 ghost use Prim.Native.Nat.{_≤_, _<_};
 ghost use lib.ListN.{length};
-ghost use Rattle.bench.specs.Bounds.{Stands, Within, Read};
+ghost use Rattle.bench.specs.Bounds.{Stands, Within};
 ghost use Rattle.bench.specs.Numbers.{digitOf, numberOf};
 
 // The bases of numbers, and the largest number of all.
@@ -45,6 +45,15 @@ fn past_spaces(line: &[u8], from: usize) -> usize
     at
 }
 
+// The place after the next word.
+pub fn past_word(line: &[u8], from: usize) -> usize
+    requires { ⌜ from ≤ length (now line) ⌝ }
+    ensures { λ r. ⌜ r ≤ length (now (line .entry)) ⌝ }
+{
+    let word = next(line, from);
+    word.end
+}
+
 // Whether no word stands from a place on.
 pub fn is_last(line: &[u8], from: usize) -> bool
     requires { ⌜ from ≤ length (now line) ⌝ }
@@ -76,9 +85,8 @@ pub enum Number {
 }
 
 // The number that a word spells in digits of the base, none above the limit.
-fn spelled(word: &[u8], base: u32, most: u32) -> Number
-    requires { ⌜ base ≤ 16 ⌝ }
-    requires { ⌜ most ≤ 65535 ⌝ }
+pub fn spelled(word: &[u8], base: u32, most: u32) -> Number
+    requires { ⌜ (base ≤ 16) × (most ≤ 65535) ⌝ }
     ensures { λ r. ⌜ r ≡ numberOf base most 0 (now (word .entry)) ⌝ }
     ensures { λ r. ⌜ Within most r ⌝ }
 {
@@ -111,45 +119,30 @@ fn digit(byte: u8) -> u32
     }
 }
 
-// A number and the place after it.
-pub enum Operand {
-    Number(u16, usize),
-    Wrong(Fault),
-}
-
 // The next word, as a number.
-pub fn next_number(line: &[u8], from: usize, base: u32, most: u32) -> Operand
+pub fn next_number(line: &[u8], from: usize, base: u32, most: u32) -> Number
     requires { ⌜ from ≤ length (now line) ⌝ }
-    requires { ⌜ base ≤ 16 ⌝ }
-    requires { ⌜ most ≤ 65535 ⌝ }
-    ensures { λ r. ⌜ Read most from (now (line .entry)) r ⌝ }
+    requires { ⌜ (base ≤ 16) × (most ≤ 65535) ⌝ }
+    ensures { λ r. ⌜ Within most r ⌝ }
 {
     let word = next(line, from);
     let start = word.start;
     let end = word.end;
-    if start >= end {
-        return Operand::Wrong(Fault::Missing);
+    if start < end {
+        return spelled(&line[start..end], base, most);
     }
-    match spelled(&line[start..end], base, most) {
-        Number::Value(value) => Operand::Number(value, end),
-        Number::Wrong(fault) => Operand::Wrong(fault),
-    }
+    Number::Wrong(Fault::Missing)
 }
 
 // The next word, as a number, where it is the last one.
 pub fn last_number(line: &[u8], from: usize, base: u32, most: u32) -> Number
     requires { ⌜ from ≤ length (now line) ⌝ }
-    requires { ⌜ base ≤ 16 ⌝ }
-    requires { ⌜ most ≤ 65535 ⌝ }
+    requires { ⌜ (base ≤ 16) × (most ≤ 65535) ⌝ }
     ensures { λ r. ⌜ Within most r ⌝ }
 {
-    match next_number(line, from, base, most) {
-        Operand::Wrong(fault) => Number::Wrong(fault),
-        Operand::Number(value, after) => {
-            if is_last(line, after) {
-                return Number::Value(value);
-            }
-            Number::Wrong(Fault::Extra)
-        }
+    let after = past_word(line, from);
+    if is_last(line, after) {
+        return next_number(line, from, base, most);
     }
+    Number::Wrong(Fault::Extra)
 }

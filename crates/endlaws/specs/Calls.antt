@@ -1,5 +1,6 @@
 -- The calls on an end, as data, and the ends that calls lead to.
---   Call        one call: send, take a symbol, read a register, write a register (sixteen bits by type), set health, present
+--   Call        one call: send, take a symbol, read a register, write a register (sixteen bits by type), set health,
+--               present
 --   after c e   the end that the call c leaves of e
 --   calls cs e  the end after the calls cs, the first one first
 --   reached cs  the end after reset and the calls cs

@@ -1,17 +1,19 @@
+-- `bench::dump::dump_by` meets its contract: a field takes its name and 62 bytes at most, and
+-- there are no more than forty.
+-- Assumes nothing.
 use Prim.Native.Nat.{_≤_, _-_, _+_, _*_}
 use mathlib.Core.Path.{_≡_}
-use native.Mathlib.Omega.{arith}
-use lib.ListN.{length}
 use borrow.Author.Needs.{needs}
+use lib.ListN.{length}
 use Rattle.bench.proofs.dump.dump_by.Statement.{statement}
 use Rattle.bench.proofs.dump.dump_by.Tie as tie
 
 abbrev Inv-loop : tie.InvT-loop
 Inv-loop names end out₀ at put₀ from₀ field₀ out put from field =
-    (field ≤ 29) × (from ≤ length names) × (put ≤ at + from + 62 * field) × (length out ≡ length out₀)
+    (field ≤ 40) × (from ≤ length names) × (put ≤ at + from + 62 * field) × (length out ≡ length out₀)
 
 abbrev μ-loop : tie.MeasureT-loop
-μ-loop names end out₀ at put₀ from₀ field₀ out put from field = 29 - field
+μ-loop names end out₀ at put₀ from₀ field₀ out put from field = 40 - field
 
 loop-holds : tie.Need-loop-holds Inv-loop μ-loop
 loop-holds c = search needs
@@ -33,6 +35,9 @@ dump-field-requires c κs = search needs
 
 add-field : tie.Need-add-field Inv-loop μ-loop
 add-field c = search needs
+
+closing-requires : tie.Need-closing-requires Inv-loop μ-loop
+closing-requires c κs = search needs
 
 loop-less : tie.Need-loop-less Inv-loop μ-loop
 loop-less c = search needs
@@ -59,6 +64,7 @@ dump-by-spec =
     part-dump-field-end
     dump-field-requires
     add-field
+    closing-requires
     loop-less
     loop-again
     same-length

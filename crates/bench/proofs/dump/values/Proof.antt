@@ -1,8 +1,9 @@
+-- `bench::dump::values` meets its contract: four digits and a comma are the most that an element takes.
+-- Assumes nothing.
 use Prim.Native.Nat.{_≤_, _-_, _+_, _*_}
 use mathlib.Core.Path.{_≡_}
-use native.Mathlib.Omega.{arith}
-use lib.ListN.{length, drop, length-set}
 use borrow.Author.Needs.{needs}
+use lib.ListN.{length}
 use Rattle.bench.proofs.dump.values.Statement.{statement}
 use Rattle.bench.proofs.dump.values.Tie as tie
 

@@ -1,8 +1,9 @@
-use Prim.Native.Nat.{_≤_, _-_, _+_, _*_}
+-- `bench::input::moved` is safe and ends: the place that is read is before the end of what is moved.
+-- Assumes nothing.
+use Prim.Native.Nat.{_≤_, _-_}
 use mathlib.Core.Path.{_≡_}
-use native.Mathlib.Omega.{arith}
-use lib.ListN.{length, drop, length-set}
 use borrow.Author.Needs.{needs}
+use lib.ListN.{length}
 use Rattle.bench.proofs.input.moved.Statement.{statement}
 use Rattle.bench.proofs.input.moved.Tie as tie
 

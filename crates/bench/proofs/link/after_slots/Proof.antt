@@ -1,3 +1,5 @@
+-- `bench::link::after_slots` is safe and ends. Nothing has to hold from slot to slot.
+-- Assumes nothing.
 use borrow.Author.Needs.{needs}
 use Rattle.bench.proofs.link.after_slots.Statement.{statement}
 use Rattle.bench.proofs.link.after_slots.Tie as tie

@@ -1,3 +1,5 @@
+-- `bench::lists::answered` meets its contract. As many numbers as were read stand in the buffer: they are a part of it.
+-- Assumes nothing.
 use borrow.Author.Needs.{needs}
 use Rattle.bench.proofs.lists.answered.Statement.{statement}
 use Rattle.bench.proofs.lists.answered.Tie as tie
@@ -24,7 +26,9 @@ part-answer-start : tie.Need-part-answer-start
 part-answer-start c = search needs
 
 part-answer-end : tie.Need-part-answer-end
-part-answer-end c = rw (c .before .before .count .given .1) at (c .before .before .before .before .before .before .read .ensures)
+part-answer-end c =
+    let read = c .before .before .before .before .before .before .read in
+    rw (c .before .before .count .given .1) at (read .ensures)
 
 answer-requires : tie.Need-answer-requires
 answer-requires c κs = search needs

@@ -1,13 +1,15 @@
+-- `bench::lists::build` meets its contract: a symbol takes four bytes.
+-- Assumes nothing.
 use Prim.Native.Nat.{_≤_, _-_, _+_, _*_}
 use mathlib.Core.Path.{_≡_}
-use native.Mathlib.Omega.{arith}
-use lib.ListN.{length, drop, length-set}
 use borrow.Author.Needs.{needs}
+use lib.ListN.{length}
 use Rattle.bench.proofs.lists.build.Statement.{statement}
 use Rattle.bench.proofs.lists.build.Tie as tie
 
 abbrev Inv-loop : tie.InvT-loop
-Inv-loop list out₀ at symbols put₀ i₀ out put i = (put ≤ at + 4 * i) × (i ≤ 12) × (length out ≡ length out₀)
+Inv-loop list out₀ at symbols put₀ i₀ out put i =
+    (put ≤ at + 4 * i) × (i ≤ 12) × (length out ≡ length out₀)
 
 abbrev μ-loop : tie.MeasureT-loop
 μ-loop list out₀ at symbols put₀ i₀ out put i = 12 - i

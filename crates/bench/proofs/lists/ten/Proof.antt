@@ -1,7 +1,6 @@
-use Prim.Native.Nat.{_≤_, _-_, _+_, _*_}
-use mathlib.Core.Path.{_≡_}
-use native.Mathlib.Omega.{arith}
-use lib.ListN.{length, drop, length-set}
+-- `bench::lists::ten` is safe and ends.
+-- Assumes nothing.
+use Prim.Native.Nat.{_≤_, _-_}
 use borrow.Author.Needs.{needs}
 use Rattle.bench.proofs.lists.ten.Statement.{statement}
 use Rattle.bench.proofs.lists.ten.Tie as tie

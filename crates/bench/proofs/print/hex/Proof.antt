@@ -1,8 +1,9 @@
-use Prim.Native.Nat.{_≤_, _-_, _+_, _*_}
+-- `bench::print::hex` meets its contract: every digit stands before the place that is returned.
+-- Assumes nothing.
+use Prim.Native.Nat.{_≤_}
 use mathlib.Core.Path.{_≡_}
-use native.Mathlib.Omega.{arith}
-use lib.ListN.{length, drop, length-set}
 use borrow.Author.Needs.{needs}
+use lib.ListN.{length}
 use Rattle.bench.proofs.print.hex.Statement.{statement}
 use Rattle.bench.proofs.print.hex.Tie as tie
 

@@ -1,9 +1,11 @@
+-- `bench::words::digit` meets its contract: each way of its tests is one step of `digitOf`.
+-- Assumes nothing.
 use native.Mathlib.Omega.{arith}
-use borrow.Author.Tests.{lt-ltb, le-ltb}
-use Rattle.bench.specs.Numbers.{digitOf}
 use borrow.Author.Needs.{needs}
+use borrow.Author.Tests.{lt-ltb, le-ltb}
 use Rattle.bench.proofs.words.digit.Statement.{statement}
 use Rattle.bench.proofs.words.digit.Tie as tie
+use Rattle.bench.specs.Numbers.{digitOf}
 
 cast-result : tie.Need-cast-result
 cast-result c = search needs
@@ -27,13 +29,29 @@ returns c = let b = c .before .before .args .byte in
 
 returns-2 : tie.Need-returns-2
 unfolding digitOf
-returns-2 c = let b = c .before .before .before .before .args .byte in
-    (simp (le-ltb b 48 (omega arith), le-ltb b 58 (omega arith), le-ltb b 65 (omega arith), lt-ltb b 71 (omega arith)), omega arith)
+returns-2 c = let b = c .before .before .before .before .args .byte in (
+  simp (
+    le-ltb b 48 (omega arith),
+    le-ltb b 58 (omega arith),
+    le-ltb b 65 (omega arith),
+    lt-ltb b 71 (omega arith),
+  ),
+  omega arith,
+)
 
 returns-3 : tie.Need-returns-3
 unfolding digitOf
-returns-3 c = let b = c .before .before .before .before .before .before .args .byte in
-    (simp (le-ltb b 48 (omega arith), le-ltb b 58 (omega arith), le-ltb b 65 (omega arith), le-ltb b 71 (omega arith), le-ltb b 97 (omega arith), lt-ltb b 103 (omega arith)), omega arith)
+returns-3 c = let b = c .before .before .before .before .before .before .args .byte in (
+  simp (
+    le-ltb b 48 (omega arith),
+    le-ltb b 58 (omega arith),
+    le-ltb b 65 (omega arith),
+    le-ltb b 71 (omega arith),
+    le-ltb b 97 (omega arith),
+    lt-ltb b 103 (omega arith),
+  ),
+  omega arith,
+)
 
 returns-4 : tie.Need-returns-4
 unfolding digitOf
@@ -47,13 +65,30 @@ returns-5 c = let b = c .before .before .before .args .byte in
 
 returns-6 : tie.Need-returns-6
 unfolding digitOf
-returns-6 c = let b = c .before .before .before .before .before .args .byte in
-    (simp (le-ltb b 48 (omega arith), le-ltb b 58 (omega arith), le-ltb b 65 (omega arith), le-ltb b 71 (omega arith), lt-ltb b 97 (omega arith)), omega arith)
+returns-6 c = let b = c .before .before .before .before .before .args .byte in (
+  simp (
+    le-ltb b 48 (omega arith),
+    le-ltb b 58 (omega arith),
+    le-ltb b 65 (omega arith),
+    le-ltb b 71 (omega arith),
+    lt-ltb b 97 (omega arith),
+  ),
+  omega arith,
+)
 
 returns-7 : tie.Need-returns-7
 unfolding digitOf
-returns-7 c = let b = c .before .before .before .before .before .before .args .byte in
-    (simp (le-ltb b 48 (omega arith), le-ltb b 58 (omega arith), le-ltb b 65 (omega arith), le-ltb b 71 (omega arith), le-ltb b 97 (omega arith), le-ltb b 103 (omega arith)), omega arith)
+returns-7 c = let b = c .before .before .before .before .before .before .args .byte in (
+  simp (
+    le-ltb b 48 (omega arith),
+    le-ltb b 58 (omega arith),
+    le-ltb b 65 (omega arith),
+    le-ltb b 71 (omega arith),
+    le-ltb b 97 (omega arith),
+    le-ltb b 103 (omega arith),
+  ),
+  omega arith,
+)
 
 pub digit-spec : {M : Type 1} → statement M
 digit-spec =

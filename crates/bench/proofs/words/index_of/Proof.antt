@@ -1,8 +1,9 @@
-use Prim.Native.Nat.{_≤_, _-_, _+_, _*_}
-use mathlib.Core.Path.{_≡_}
-use native.Mathlib.Omega.{arith}
-use lib.ListN.{length, drop, length-set}
+-- `bench::words::index_of` is safe and ends. No more names are counted than there are bytes, and each name moves the
+-- place on.
+-- Assumes nothing.
+use Prim.Native.Nat.{_≤_, _-_, _+_}
 use borrow.Author.Needs.{needs}
+use lib.ListN.{length}
 use Rattle.bench.proofs.words.index_of.Statement.{statement}
 use Rattle.bench.proofs.words.index_of.Tie as tie
 

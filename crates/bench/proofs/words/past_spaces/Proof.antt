@@ -1,6 +1,8 @@
+-- `bench::words::past_spaces` meets its contract: the place is never before `from` nor behind the line.
+-- Assumes nothing.
 use Prim.Native.Nat.{_≤_, _-_}
-use lib.ListN.{length}
 use borrow.Author.Needs.{needs}
+use lib.ListN.{length}
 use Rattle.bench.proofs.words.past_spaces.Statement.{statement}
 use Rattle.bench.proofs.words.past_spaces.Tie as tie
 

@@ -1,16 +1,19 @@
-use Prim.Native.Nat.{_≤_, _-_, _+_, _*_}
-use mathlib.Core.Path.{_≡_, sym, _∙_}
+-- `bench::words::spelled` meets its contract. The digits that are left, behind the value so far, spell what the whole
+-- word spells.
+-- Assumes nothing.
+use Prim.Native.Nat.{_≤_, _-_}
+use mathlib.Core.Path.{_≡_}
 use native.Mathlib.Omega.{arith}
-use lib.ListN.{length, drop}
-use denote.Ref.{now}
-use Rattle.bench.specs.Numbers.{digitOf, numberOf}
-use Rattle.bench.proofs.Laws.{scaled, number-more, number-digits, number-large, number-end}
 use borrow.Author.Needs.{needs}
+use lib.ListN.{length, drop}
+use Rattle.bench.proofs.Laws.{scaled, number-more, number-digits, number-large, number-end}
 use Rattle.bench.proofs.words.spelled.Statement.{statement}
 use Rattle.bench.proofs.words.spelled.Tie as tie
+use Rattle.bench.specs.Numbers.{numberOf}
 
 abbrev Inv-loop : tie.InvT-loop
-Inv-loop word base most value₀ i₀ value i = (i ≤ length word) × (value ≤ most) × (numberOf base most value (drop i word) ≡ numberOf base most 0 word)
+Inv-loop word base most value₀ i₀ value i =
+    (i ≤ length word) × (value ≤ most) × (numberOf base most value (drop i word) ≡ numberOf base most 0 word)
 
 abbrev μ-loop : tie.MeasureT-loop
 μ-loop word base most value₀ i₀ value i = length word - i
@@ -25,22 +28,28 @@ digit-requires : tie.Need-digit-requires Inv-loop μ-loop
 digit-requires c κs = search needs
 
 returns : tie.Need-returns Inv-loop μ-loop
-returns c = let a = c .before .before .before .before .before .before .args in
+returns c =
     let l = c .before .before .before .before .loop in
-    let e = number-digits (a .base) (a .most) (l .value) (l .i) (c .before .digit .result) (now (a .word)) (omega arith) (c .before .digit .ensures .0) (c .if1 .taken) in
-    (sym e ∙ l .inv .2, tt)
+    let d = c .before .digit in
+    (number-digits _ _ _ _ _ _ (l .inv .2) (d .ensures .0) (omega arith) (c .if1 .taken), tt)
 
 mul-value : tie.Need-mul-value Inv-loop μ-loop
-mul-value c = omega (arith, scaled (c .before .before .before .before .loop .value) (c .before .before .before .before .before .before .args .base) (omega arith) (omega arith))
+mul-value c =
+    let l = c .before .before .before .before .loop in
+    let a = c .before .before .before .before .before .before .args in
+    omega (arith, scaled (l .value) (a .base) (omega arith) (omega arith))
 
 add-value : tie.Need-add-value Inv-loop μ-loop
-add-value c = omega (arith, scaled (c .before .before .before .before .loop .value) (c .before .before .before .before .before .before .args .base) (omega arith) (omega arith))
+add-value c =
+    let l = c .before .before .before .before .loop in
+    let a = c .before .before .before .before .before .before .args in
+    omega (arith, scaled (l .value) (a .base) (omega arith) (omega arith))
 
 returns-2 : tie.Need-returns-2 Inv-loop μ-loop
-returns-2 c = let a = c .before .before .before .before .before .before .before .args in
+returns-2 c =
     let l = c .before .before .before .before .before .loop in
-    let e = number-large (a .base) (a .most) (l .value) (l .i) (c .before .before .digit .result) (now (a .word)) (omega arith) (c .before .before .digit .ensures .0) (c .before .if1 .left) (c .if2 .taken) in
-    (sym e ∙ l .inv .2, tt)
+    let d = c .before .before .digit in
+    (number-large _ _ _ _ _ _ (l .inv .2) (d .ensures .0) (omega arith) (c .before .if1 .left) (c .if2 .taken), tt)
 
 add-i : tie.Need-add-i Inv-loop μ-loop
 add-i c = search needs
@@ -49,19 +58,20 @@ loop-less : tie.Need-loop-less Inv-loop μ-loop
 loop-less c = search needs
 
 loop-again : tie.Need-loop-again Inv-loop μ-loop
-loop-again c = let a = c .before .before .before .before .before .before .before .args in
+loop-again c =
     let l = c .before .before .before .before .before .loop in
-    let e = number-more (a .base) (a .most) (l .value) (l .i) (c .before .before .digit .result) (now (a .word)) (omega arith) (c .before .before .digit .ensures .0) (c .before .if1 .left) (c .if2 .left) in
-    (omega arith, omega arith, sym e ∙ l .inv .2)
+    let d = c .before .before .digit in (
+      omega arith,
+      omega arith,
+      number-more _ _ _ _ _ _ (l .inv .2) (d .ensures .0) (omega arith) (c .before .if1 .left) (c .if2 .left),
+    )
 
 cast-t14 : tie.Need-cast-t14 Inv-loop μ-loop
 cast-t14 c = search needs
 
 returns-3 : tie.Need-returns-3 Inv-loop μ-loop
-returns-3 c = let a = c .before .before .before .args in
-    let l = c .before .loop in
-    let e = number-end (a .base) (a .most) (l .value) (l .i) (now (a .word)) (omega arith) in
-    (sym e ∙ l .inv .2, l .inv .1)
+returns-3 c = let l = c .before .loop in
+    (number-end _ _ _ (l .i) (c .before .before .before .args .word .now) (l .inv .2) (omega arith), l .inv .1)
 
 pub spelled-spec : {M : Type 1} → statement M
 spelled-spec =

@@ -14,7 +14,7 @@ use Rattle.end.specs.Taking.{taken, takeOf}
 use Rattle.end.specs.Registers.{readOf, writeOf, healthOf}
 use Rattle.link.specs.Link.{run, takes}
 use Rattle.cases.specs.Cases.{Case, P1, P2, P3, P4, P5, P6, P7, P8, P9, P10, P11, Agree, table}
-use Rattle.cases.specs.More.{Extra, Health, Ping, Toggles, Settling, more}
+use Rattle.cases.specs.More.{Extra, Health, Ping, Toggles, Settling, taking, more}
 
 pub table-agrees : (c : Case) → Agree (table c)
 unfolding table odd bits number oddOnes plus times shift feed crc generator stream crcOf even evenSymbol oddSymbol
@@ -33,10 +33,10 @@ table-agrees P10 = (refl, (refl, (refl, (refl, tt))))
 table-agrees P11 = (refl, (refl, tt))
 
 pub more-agrees : (c : Extra) → Agree (more c)
-unfolding more odd bits number oddOnes plus times shift feed crc generator stream crcOf even evenSymbol oddSymbol
+unfolding more taking odd bits number oddOnes plus times shift feed crc generator stream crcOf even evenSymbol oddSymbol
     symbols build crcRight noneMarked allOdd paritiesRight acceptable xor someAbove checkOf above bad acked frameStart sendOf
     taken takeOf readOf writeOf healthOf run takes
 more-agrees Health = (refl, (refl, (refl, (refl, tt))))
 more-agrees Ping = (refl, (refl, (refl, tt)))
 more-agrees Toggles = (refl, (refl, tt))
-more-agrees Settling = (refl, (refl, tt))
+more-agrees Settling = (refl, (refl, (refl, (refl, tt))))

@@ -1,12 +1,17 @@
 -- What P1 to P11 leave out, worked out by hand from document 01's sentences: the bits that carry no message, the second
 -- acknowledgement, and how long an acknowledgement lasts.
 --   sentBack es   the symbols that the far end has sent, the first one first
+--   taking l e    the end e after the symbols l
 --   more          the rows of each case
 -- Assumes nothing.
 use Prim.Native.Nat.{ℕ}
 use native.Mathlib.Omega.{arith}
 use mathlib.Core.List.{List, [], _∷_, _++_, reverse}
-use lib.ListN.{drop}
+use lib.ListN.{replicate, drop}
+use Rattle.frame.specs.Frame.{build}
+use Rattle.end.specs.declared.End.{End}
+use Rattle.end.specs.Good.{resetOf}
+use Rattle.end.specs.Taking.{takeOf}
 use Rattle.link.specs.Link.{Access, Event, start, run}
 use Rattle.cases.specs.Cases.{Row, row, near, far, sent, read, control, report, slots}
 
@@ -24,6 +29,15 @@ pinged = control 0x0004 (omega arith) ++ (Event.atA (Access.health 3) ∷ Event.
 abbrev pub twice : List Event
 twice =
     report ++ (slots 25 ++ (Event.atB (Access.read 2317) ∷ control 0x8500 (omega arith) ++ slots 36))
+
+-- an end takes symbol after symbol
+unfoldable pub taking : List ℕ → End → End
+taking [] e = e
+taking (s ∷ l) e = taking l (takeOf e s .end)
+
+-- a frame with Valid 1, Toggle 1 and number 5: an end just reset expects the other toggle until it has settled
+abbrev pub other : List ℕ
+other = build (0x00 ∷ 0xC5 ∷ replicate 8 0x00)
 
 unfoldable pub more : Extra → List Row
 more Health =
@@ -44,4 +58,6 @@ more Toggles =
 more Settling =
     row (drop 37 (sentBack (report ++ slots 38))) (0x020 ∷ [])
     ∷ row (drop 49 (sentBack (report ++ slots 50))) (0x100 ∷ [])
+    ∷ row (read 2313 (taking other resetOf)) (0 ∷ 0x0000 ∷ [])
+    ∷ row (read 2313 (taking (other ++ other) resetOf)) (0 ∷ 0xC500 ∷ [])
     ∷ []

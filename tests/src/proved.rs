@@ -8,7 +8,7 @@ use std::thread;
 
 /// Names the program to be tested; a relative path is seen from this package.
 const PROGRAM: &str = "SIMHADOL_BENCH";
-const DEFAULT_PROGRAM: &str = "../target/bin/bench";
+const DEFAULT_PROGRAM: &str = "../bench";
 
 fn path() -> PathBuf {
     let package = PathBuf::from(env!("CARGO_MANIFEST_DIR"));

@@ -1,4 +1,4 @@
-//! Document 01, "Answer numbers".
+//! Document 01, "Answer numbers"; 10 is from document 02, #101.
 
 #[derive(Clone, Copy, Debug, PartialEq, Eq)]
 pub enum Answer {
@@ -12,6 +12,7 @@ pub enum Answer {
     BadLength = 7,
     NotFound = 8,
     NotAcceptable = 9,
+    ReadOnlyBits = 10,
 }
 
 impl Answer {

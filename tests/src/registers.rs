@@ -1,4 +1,4 @@
-//! Document 01, "The ten registers": 3.2308 to 3.2317.
+//! Document 01, "The ten registers": 3.2308 to 3.2317, as document 02, #101 amends it.
 
 use crate::answer::Answer;
 use crate::end::End;
@@ -9,6 +9,9 @@ pub const TX_LAST: u16 = 2312;
 pub const RX_CONTROL: u16 = 2313;
 pub const RX_FIRST: u16 = 2314;
 pub const RX_LAST: u16 = 2317;
+
+/// Bits 14:12, 7:3 and 1:0 of 3.2308.
+pub const READ_ONLY_BITS: u16 = 0x70FB;
 
 impl End {
     pub fn read(&mut self, register: u16) -> (Answer, u16) {
@@ -66,7 +69,11 @@ impl End {
         }
     }
 
+    /// 10 comes before 4.
     fn write_tx_control(&mut self, value: u16) -> Answer {
+        if value & READ_ONLY_BITS != 0 {
+            return Answer::ReadOnlyBits;
+        }
         let bit_15 = value >> 15 == 1;
         if self.pending && bit_15 {
             return Answer::Blocked;

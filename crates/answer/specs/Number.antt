@@ -1,10 +1,10 @@
--- The answer numbers of document 01.
+-- The answer numbers of document 01, and 10 of request #101.
 --   numberOf a      the number of the answer a in the table
 -- Assumes nothing.
 use Prim.Native.Nat.{ℕ}
 use Rattle.answer.specs.declared.Answer.{Answer}
 use Rattle.answer.specs.declared.Answer.the-variants.{Done, BadEnd, NoRegister, ReadOnly, Blocked}
-use Rattle.answer.specs.declared.Answer.the-variants.{BadSymbol, BadHealth, BadLength, NothingFound, NotAcceptable}
+use Rattle.answer.specs.declared.Answer.the-variants.{BadSymbol, BadHealth, BadLength, NothingFound, NotAcceptable, ReadOnlyBits}
 
 abbrev pub numberOf : Answer → ℕ
 numberOf Done = 0
@@ -17,3 +17,4 @@ numberOf BadHealth = 6
 numberOf BadLength = 7
 numberOf NothingFound = 8
 numberOf NotAcceptable = 9
+numberOf ReadOnlyBits = 10

@@ -1,4 +1,5 @@
-// Document 01, "Answer numbers". An answer is an enum without data; its number is what document 01's table says.
+// Document 01, "Answer numbers", and answer 10 of request #101. An answer is an enum without data; its number is what the
+// table says.
 ghost use mathlib.Core.Path.{_≡_};
 ghost use Rattle.answer.specs.Number.{numberOf};
 
@@ -13,9 +14,10 @@ pub enum Answer {
     BadLength,
     NothingFound,
     NotAcceptable,
+    ReadOnlyBits,
 }
 
-// The number in document 01's table.
+// The number in the table.
 pub fn number(answer: Answer) -> u8
     ensures { λ r. ⌜ r ≡ numberOf answer ⌝ }
 {
@@ -30,5 +32,6 @@ pub fn number(answer: Answer) -> u8
         Answer::BadLength => 7,
         Answer::NothingFound => 8,
         Answer::NotAcceptable => 9,
+        Answer::ReadOnlyBits => 10,
     }
 }

@@ -14,7 +14,7 @@ use Rattle.end.specs.Taking.{taken, takeOf}
 use Rattle.end.specs.Registers.{readOf, writeOf, healthOf}
 use Rattle.link.specs.Link.{run, takes}
 use Rattle.cases.specs.Cases.{Case, P1, P2, P3, P4, P5, P6, P7, P8, P9, P10, P11, Agree, table}
-use Rattle.cases.specs.More.{Extra, Health, Ping, Toggles, Settling, taking, more}
+use Rattle.cases.specs.More.{Extra, Health, Ping, Toggles, Settling, ReadOnlyBits, taking, more}
 
 pub table-agrees : (c : Case) → Agree (table c)
 unfolding table odd bits number oddOnes plus times shift feed crc generator stream crcOf even evenSymbol oddSymbol
@@ -40,3 +40,4 @@ more-agrees Health = (refl, (refl, (refl, (refl, tt))))
 more-agrees Ping = (refl, (refl, (refl, tt)))
 more-agrees Toggles = (refl, (refl, tt))
 more-agrees Settling = (refl, (refl, (refl, (refl, tt))))
+more-agrees ReadOnlyBits = (refl, (refl, (refl, (refl, (refl, (refl, (refl, (refl, tt))))))))

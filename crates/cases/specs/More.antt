@@ -1,22 +1,25 @@
 -- What P1 to P11 leave out, worked out by hand from document 01's sentences: the bits that carry no message, the second
--- acknowledgement, and how long an acknowledgement lasts.
+-- acknowledgement, how long an acknowledgement lasts, and the bits of 3.2308 that cannot be written (request #101).
 --   sentBack es   the symbols that the far end has sent, the first one first
 --   taking l e    the end e after the symbols l
+--   answers l e   what writing each of l to 3.2308 is answered
 --   more          the rows of each case
 -- Assumes nothing.
 use Prim.Native.Nat.{ℕ}
 use native.Mathlib.Omega.{arith}
-use mathlib.Core.List.{List, [], _∷_, _++_, reverse}
+use mathlib.Core.List.{List, [], _∷_, _++_, map, reverse}
 use lib.ListN.{replicate, drop}
+use Rattle.answer.specs.Number.{numberOf}
 use Rattle.frame.specs.Frame.{build}
 use Rattle.end.specs.declared.End.{End}
 use Rattle.end.specs.Good.{resetOf}
 use Rattle.end.specs.Taking.{takeOf}
+use Rattle.end.specs.Registers.{writeOf}
 use Rattle.link.specs.Link.{Access, Event, start, run}
-use Rattle.cases.specs.Cases.{Row, row, near, far, sent, read, control, report, slots}
+use Rattle.cases.specs.Cases.{Row, row, near, far, sent, read, write, control, report, slots}
 
 pub data Extra : Type 0 where
-  Health Ping Toggles Settling : Extra
+  Health Ping Toggles Settling ReadOnlyBits : Extra
 
 abbrev pub sentBack : List Event → List ℕ
 sentBack es = reverse (run 0 0 es start .b .sent)
@@ -34,6 +37,9 @@ twice =
 unfoldable pub taking : List ℕ → End → End
 taking [] e = e
 taking (s ∷ l) e = taking l (takeOf e s .end)
+
+abbrev pub answers : List ℕ → End → List ℕ
+answers l e = map (λ v. numberOf (writeOf e 2308 v .answer)) l
 
 -- a frame with Valid 1, Toggle 1 and number 5: an end just reset expects the other toggle until it has settled
 abbrev pub other : List ℕ
@@ -60,4 +66,20 @@ more Settling =
     ∷ row (drop 49 (sentBack (report ++ slots 50))) (0x100 ∷ [])
     ∷ row (read 2313 (taking other resetOf)) (0 ∷ 0x0000 ∷ [])
     ∷ row (read 2313 (taking (other ++ other) resetOf)) (0 ∷ 0xC500 ∷ [])
+    ∷ []
+-- each read-only bit alone, then each other one; 10 comes before 4, and what is refused stores no PingTx; in P8's 6500
+-- Received is not cleared by writing 4500; other registers have no such bits
+more ReadOnlyBits =
+    row
+    (answers
+    (0x4000 ∷ 0x2000 ∷ 0x1000 ∷ 0x0080 ∷ 0x0040 ∷ 0x0020 ∷ 0x0010 ∷ 0x0008 ∷ 0x0002 ∷ 0x0001 ∷ [])
+    resetOf)
+    (replicate 10 10)
+    ∷ row (answers (0x8000 ∷ 0x0800 ∷ 0x0400 ∷ 0x0200 ∷ 0x0100 ∷ 0x0004 ∷ []) resetOf) (replicate 6 0)
+    ∷ row (answers (0x8608 ∷ 0x8600 ∷ []) (near report)) (10 ∷ 4 ∷ [])
+    ∷ row (read 2308 (near (report ++ control 0x000C (omega arith)))) (0 ∷ 0x8500 ∷ [])
+    ∷ row (write 2308 0x4500 (near (report ++ slots 25))) (10 ∷ [])
+    ∷ row (read 2308 (near (report ++ (slots 25 ++ control 0x4500 (omega arith))))) (0 ∷ 0x6500 ∷ [])
+    ∷ row (write 2309 0x70FB resetOf) (0 ∷ [])
+    ∷ row (write 2313 0x70FB resetOf) (3 ∷ [])
     ∷ []

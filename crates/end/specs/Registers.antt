@@ -1,7 +1,8 @@
--- Document 01, "The ten registers", and the health to send.
+-- Document 01, "The ten registers", as request #101 amends it, and the health to send.
 --   outside r, readOnly r     not one of 3.2308 to 3.2317; one of 3.2313 to 3.2317
 --   pair l i                  bytes 2i and 2i + 1 of l, the even byte in 7:0, the odd one in 15:8
 --   valueOf e r, readEnd e r  what reading r gives, and the end after it
+--   readOnlyBits r v          a write to 3.2308 with one of its bits 14:12, 7:3 or 1:0 set
 --   blocked e r v             a pending message blocks this write
 --   writeControl, writeBytes  the transmit registers after a write to 3.2308, to one of 3.2309 to 3.2312
 --   readOf, writeOf, healthOf what read, write and set health give
@@ -11,7 +12,7 @@ use mathlib.Core.Bool.{Bool, true, false, not, cond, _&&_, _||_}
 use mathlib.Core.List.{List}
 use lib.Dec.{eqb, leb, ltb}
 use lib.ListN.{getD, set}
-use Rattle.answer.specs.declared.Answer.the-variants.{Done, BadEnd, NoRegister, ReadOnly, Blocked, BadHealth}
+use Rattle.answer.specs.declared.Answer.the-variants.{Done, BadEnd, NoRegister, ReadOnly, ReadOnlyBits, Blocked, BadHealth}
 use Rattle.frame.specs.Bits.{odd}
 use Rattle.end.specs.declared.End.{End}
 use Rattle.end.specs.declared.Outbox.{Outbox}
@@ -87,6 +88,10 @@ readOf e r =
 
 -- Writing
 
+-- bits 14:12, bits 7:3, bits 1:0
+abbrev pub readOnlyBits : ℕ → ℕ → Bool
+readOnlyBits r v = eqb r 2308 && (ltb 0 (v / 4096 % 8) || (ltb 0 (v / 8 % 32) || ltb 0 (v % 4)))
+
 abbrev pub blocked : End → ℕ → ℕ → Bool
 blocked e r v = e .outbox .pending && (not (eqb r 2308) || odd (v / 32768))
 
@@ -142,9 +147,11 @@ writeOf e r v =
     (record { answer = NoRegister; end = e })
     (cond (readOnly r)
     (record { answer = ReadOnly; end = e })
+    (cond (readOnlyBits r v)
+    (record { answer = ReadOnlyBits; end = e })
     (cond (blocked e r v)
     (record { answer = Blocked; end = e })
-    (record { answer = Done; end = written e r v }))))
+    (record { answer = Done; end = written e r v })))))
 
 -- The health to send
 

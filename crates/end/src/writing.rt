@@ -6,13 +6,19 @@ use crate::good::bad;
 use crate::registers::Register;
 use crate::registers::named;
 use answer::Answer;
+ghost use mathlib.Core.Bool.{false};
 ghost use mathlib.Core.Path.{_≡_};
-ghost use Prim.Native.Nat.{_<_};
+ghost use Prim.Native.Nat.{_+_, _<_};
+ghost use Rattle.end.specs.Good.{bad};
 ghost use Rattle.end.specs.Registers.{writeControl, writeBytes, writeOf, healthOf};
 
+// Bits 14:12, 7:3 and 1:0 of 3.2308. A host that writes back what it read sets some of them, and is told so.
+const READ_ONLY_BITS: u16 = 0x70FB;
+
 impl End {
-    // Stores a value in 3.2308 to 3.2312 unless a pending message blocks it; 3.2313 to 3.2317 cannot be written.
-    pub fn write(mut self, register: u16, value: u16) -> Next
+    // Stores a value in 3.2308 to 3.2312 unless it sets a read-only bit of 3.2308 or a pending message blocks it; 3.2313 to
+    // 3.2317 cannot be written.
+    pub fn write(self, register: u16, value: u16) -> Next
         ensures { λ r. ⌜ r ≡ writeOf self register value ⌝ }
     {
         if bad(self) {
@@ -21,38 +27,10 @@ impl End {
                 end: self,
             };
         }
-        let outbox = self.outbox;
         let name = named(register);
         match name {
-            Register::Control => {
-                let blocked = outbox.pending & (value / 32768 % 2 == 1);
-                if blocked {
-                    return Next {
-                        answer: Answer::Blocked,
-                        end: self,
-                    };
-                }
-                let stored = write_control(outbox, value);
-                self.outbox = stored;
-                Next {
-                    answer: Answer::Done,
-                    end: self,
-                }
-            }
-            Register::Message(i) => {
-                if outbox.pending {
-                    return Next {
-                        answer: Answer::Blocked,
-                        end: self,
-                    };
-                }
-                let stored = write_bytes(outbox, i, value);
-                self.outbox = stored;
-                Next {
-                    answer: Answer::Done,
-                    end: self,
-                }
-            }
+            Register::Control => to_control(self, value),
+            Register::Message(i) => to_message(self, i, value),
             Register::Status => Next {
                 answer: Answer::ReadOnly,
                 end: self,
@@ -90,6 +68,53 @@ impl End {
             answer: Answer::Done,
             end: self,
         }
+    }
+}
+
+// A write to 3.2308. A read-only bit is looked for before a pending message.
+fn to_control(mut end: End, value: u16) -> Next
+    requires { ⌜ bad end ≡ false ⌝ }
+    ensures { λ r. ⌜ r ≡ writeOf end 2308 value ⌝ }
+{
+    let outbox = end.outbox;
+    if value & READ_ONLY_BITS != 0 {
+        return Next {
+            answer: Answer::ReadOnlyBits,
+            end,
+        };
+    }
+    let blocked = outbox.pending & (value / 32768 % 2 == 1);
+    if blocked {
+        return Next {
+            answer: Answer::Blocked,
+            end,
+        };
+    }
+    let stored = write_control(outbox, value);
+    end.outbox = stored;
+    Next {
+        answer: Answer::Done,
+        end,
+    }
+}
+
+// A write to the i-th of 3.2309 to 3.2312.
+fn to_message(mut end: End, i: usize, value: u16) -> Next
+    requires { ⌜ (bad end ≡ false) × (i < 4) ⌝ }
+    ensures { λ r. ⌜ r ≡ writeOf end (2309 + i) value ⌝ }
+{
+    let outbox = end.outbox;
+    if outbox.pending {
+        return Next {
+            answer: Answer::Blocked,
+            end,
+        };
+    }
+    let stored = write_bytes(outbox, i, value);
+    end.outbox = stored;
+    Next {
+        answer: Answer::Done,
+        end,
     }
 }
 

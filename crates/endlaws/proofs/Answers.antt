@@ -1,5 +1,5 @@
--- Document 01's answer table, for every call on an end, whatever the end is: each number is given exactly when its row
--- holds and no earlier row does (registers 1, 2, 3, 4; take 1, then 5; health 1, then 6), and 0 when none does.
+-- The answer table, for every call on an end, whatever the end is: each number is given exactly when its row
+-- holds and no earlier row does (registers 1, 2, 3, 10, 4; take 1, then 5; health 1, then 6), and 0 when none does.
 --   bad-met         what row 1 is, spelled out
 --   CALL-N          the call gives the number N exactly when ..
 --   CALL-refused    any number but 0: the end as it came, and value and symbol 0
@@ -18,10 +18,10 @@ use Rattle.end.specs.declared.Sent.{Sent}
 use Rattle.end.specs.Good.{bad, presentOf}
 use Rattle.end.specs.Sending.{sendOf}
 use Rattle.end.specs.Taking.{takeOf}
-use Rattle.end.specs.Registers.{outside, readOnly, blocked, readOf, writeOf, healthOf}
-use Rattle.endlaws.specs.Rows.{Met, Outside, Received, Pending}
+use Rattle.end.specs.Registers.{outside, readOnly, readOnlyBits, blocked, readOf, writeOf, healthOf}
+use Rattle.endlaws.specs.Rows.{Met, Outside, Received, SetsReadOnly, Pending}
 use Rattle.endlaws.proofs.Decide.{decides-iff, hit, skip, pass, never}
-use Rattle.endlaws.proofs.Tested.{met, outside-row, received-row, pending-row, above-row}
+use Rattle.endlaws.proofs.Tested.{met, outside-row, received-row, read-only-row, pending-row, above-row}
 
 pub bad-met : (e : End) → (bad e ≡ true) ↔ Met e
 bad-met e = decides-iff (met e)
@@ -86,14 +86,18 @@ unfolding writeOf
 write-1 e r v =
     hit next (bad e) (met e) refl
     (never next (outside r) (λ h. omega arith)
-    (never next (readOnly r) (λ h. omega arith) (never next (blocked e r v) (λ h. omega arith) (λ h. omega arith))))
+    (never next (readOnly r) (λ h. omega arith)
+    (never next (readOnlyBits r v) (λ h. omega arith)
+    (never next (blocked e r v) (λ h. omega arith) (λ h. omega arith)))))
 
 pub write-2 : (e : End) (r v : ℕ) → (numberOf (writeOf e r v .answer) ≡ 2) ↔ (¬ Met e × Outside r)
 unfolding writeOf
 write-2 e r v =
     skip next (bad e) (met e) (λ h. omega arith)
     (λ _. hit next (outside r) (outside-row r) refl
-    (never next (readOnly r) (λ h. omega arith) (never next (blocked e r v) (λ h. omega arith) (λ h. omega arith))))
+    (never next (readOnly r) (λ h. omega arith)
+    (never next (readOnlyBits r v) (λ h. omega arith)
+    (never next (blocked e r v) (λ h. omega arith) (λ h. omega arith)))))
 
 pub write-3 : (e : End) (r v : ℕ) → (numberOf (writeOf e r v .answer) ≡ 3) ↔ (¬ Met e × (¬ Outside r × Received r))
 unfolding writeOf
@@ -101,25 +105,40 @@ write-3 e r v =
     skip next (bad e) (met e) (λ h. omega arith)
     (λ _. skip next (outside r) (outside-row r) (λ h. omega arith)
     (λ o. hit next (readOnly r) (received-row r o) refl
-    (never next (blocked e r v) (λ h. omega arith) (λ h. omega arith))))
+    (never next (readOnlyBits r v) (λ h. omega arith)
+    (never next (blocked e r v) (λ h. omega arith) (λ h. omega arith)))))
+
+pub write-10 : (e : End) (r v : ℕ)
+    → (numberOf (writeOf e r v .answer) ≡ 10) ↔ (¬ Met e × (¬ Outside r × (¬ Received r × SetsReadOnly r v)))
+unfolding writeOf
+write-10 e r v =
+    skip next (bad e) (met e) (λ h. omega arith)
+    (λ _. skip next (outside r) (outside-row r) (λ h. omega arith)
+    (λ o. skip next (readOnly r) (received-row r o) (λ h. omega arith)
+    (λ _. hit next (readOnlyBits r v) (read-only-row r v) refl
+    (never next (blocked e r v) (λ h. omega arith) (λ h. omega arith)))))
 
 pub write-4 : (e : End) (r v : ℕ)
-    → (numberOf (writeOf e r v .answer) ≡ 4) ↔ (¬ Met e × (¬ Outside r × (¬ Received r × Pending e r v)))
+    → (numberOf (writeOf e r v .answer) ≡ 4)
+    ↔ (¬ Met e × (¬ Outside r × (¬ Received r × (¬ SetsReadOnly r v × Pending e r v))))
 unfolding writeOf
 write-4 e r v =
     skip next (bad e) (met e) (λ h. omega arith)
     (λ _. skip next (outside r) (outside-row r) (λ h. omega arith)
     (λ o. skip next (readOnly r) (received-row r o) (λ h. omega arith)
-    (λ n. hit next (blocked e r v) (pending-row e r v o n) refl (λ h. omega arith))))
+    (λ n. skip next (readOnlyBits r v) (read-only-row r v) (λ h. omega arith)
+    (λ _. hit next (blocked e r v) (pending-row e r v o n) refl (λ h. omega arith)))))
 
 pub write-0 : (e : End) (r v : ℕ)
-    → (numberOf (writeOf e r v .answer) ≡ 0) ↔ (¬ Met e × (¬ Outside r × (¬ Received r × ¬ Pending e r v)))
+    → (numberOf (writeOf e r v .answer) ≡ 0)
+    ↔ (¬ Met e × (¬ Outside r × (¬ Received r × (¬ SetsReadOnly r v × ¬ Pending e r v))))
 unfolding writeOf
 write-0 e r v =
     skip next (bad e) (met e) (λ h. omega arith)
     (λ _. skip next (outside r) (outside-row r) (λ h. omega arith)
     (λ o. skip next (readOnly r) (received-row r o) (λ h. omega arith)
-    (λ n. pass next (blocked e r v) (pending-row e r v o n) (λ h. omega arith) refl)))
+    (λ n. skip next (readOnlyBits r v) (read-only-row r v) (λ h. omega arith)
+    (λ _. pass next (blocked e r v) (pending-row e r v o n) (λ h. omega arith) refl))))
 
 -- set health
 
@@ -180,7 +199,9 @@ unfolding writeOf
 write-refused e r v =
     refused next (Unmoved e) (bad e) refl
     (refused next (Unmoved e) (outside r) refl
-    (refused next (Unmoved e) (readOnly r) refl (refused next (Unmoved e) (blocked e r v) refl (λ n. absurd (n refl)))))
+    (refused next (Unmoved e) (readOnly r) refl
+    (refused next (Unmoved e) (readOnlyBits r v) refl
+    (refused next (Unmoved e) (blocked e r v) refl (λ n. absurd (n refl))))))
 
 pub health-refused : (e : End) (h : ℕ) → ¬ (numberOf (healthOf e h .answer) ≡ 0) → healthOf e h .end ≡ e
 unfolding healthOf

@@ -1,6 +1,6 @@
 -- What a call on an end that answer 1 does not meet gives, and what calls keep.
---   send-good, take-good, read-good, write-good, health-good    the call that is not refused
---   take-above    a symbol above 1,023 is refused
+--   send-good, take-good    the call that is not refused (for read and write: RegisterLaws of crate end)
+--   take-above              a symbol above 1,023 is refused
 --   send-case, take-case, read-case, write-case, health-case    a refused call returns the end it was given
 --   Kept P e      P holds of what each call that is done makes of e
 --   after-keeps   what every call keeps where it is done, it keeps
@@ -18,7 +18,8 @@ use Rattle.end.specs.declared.Sent.{Sent}
 use Rattle.end.specs.Good.{bad}
 use Rattle.end.specs.Sending.{slotOf, movedOn, symbolAt, sendOf}
 use Rattle.end.specs.Taking.{taken, takeOf}
-use Rattle.end.specs.Registers.{outside, readOnly, blocked, valueOf, readEnd, written, withHealth, readOf, writeOf, healthOf}
+use Rattle.end.specs.Registers.{outside, readOnly, readOnlyBits, blocked, readEnd, written, withHealth}
+use Rattle.end.specs.Registers.{readOf, writeOf, healthOf}
 use Rattle.endlaws.specs.Calls.{Call, after}
 use Rattle.endlaws.proofs.Base.{cond-true, cond-false, either}
 
@@ -34,21 +35,6 @@ take-good e s h k = cond-false _ _ h ∙ cond-false _ _ (le-ltb 1023 s k)
 pub take-above : (e : End) (s : ℕ) → bad e ≡ false → 1023 < s → takeOf e s ≡ record { answer = BadSymbol; end = e }
 unfolding takeOf
 take-above e s h k = cond-false _ _ h ∙ cond-true _ _ (lt-ltb 1023 s k)
-
-pub read-good : (e : End) (r : ℕ) → bad e ≡ false → outside r ≡ false
-    → readOf e r ≡ record { answer = Done; value = valueOf e r; end = readEnd e r }
-unfolding readOf
-read-good e r h k = cond-false _ _ h ∙ cond-false _ _ k
-
-pub write-good : (e : End) (r v : ℕ) → bad e ≡ false → outside r ≡ false → readOnly r ≡ false → blocked e r v ≡ false
-    → writeOf e r v ≡ record { answer = Done; end = written e r v }
-unfolding writeOf
-write-good e r v h k l m = cond-false _ _ h ∙ (cond-false _ _ k ∙ (cond-false _ _ l ∙ cond-false _ _ m))
-
-pub health-good : (e : End) (h : ℕ) → bad e ≡ false → h ≤ 3
-    → healthOf e h ≡ record { answer = Done; end = withHealth e h }
-unfolding healthOf
-health-good e h b k = cond-false _ _ b ∙ cond-false _ _ (le-ltb 3 h k)
 
 -- what holds of the end given and of the end that the call makes where it is done, holds of the end returned
 
@@ -70,14 +56,15 @@ module _ (P : End → Type 0) (e : End) (p : P e) where
       (λ g. either (λ (r : Got). P (r .end)) (outside r) _ _ (λ _. p) (q g))
 
   pub write-case : (r v : ℕ)
-      → (bad e ≡ false → outside r ≡ false → readOnly r ≡ false → blocked e r v ≡ false → P (written e r v))
+      → (bad e ≡ false → blocked e r v ≡ false → P (written e r v))
       → P (writeOf e r v .end)
   unfolding writeOf
   write-case r v q =
       either (λ (r : Next). P (r .end)) (bad e) _ _ (λ _. p)
       (λ g. either (λ (r : Next). P (r .end)) (outside r) _ _ (λ _. p)
-      (λ o. either (λ (r : Next). P (r .end)) (readOnly r) _ _ (λ _. p)
-      (λ n. either (λ (r : Next). P (r .end)) (blocked e r v) _ _ (λ _. p) (λ b. q g o n b))))
+      (λ _. either (λ (r : Next). P (r .end)) (readOnly r) _ _ (λ _. p)
+      (λ _. either (λ (r : Next). P (r .end)) (readOnlyBits r v) _ _ (λ _. p)
+      (λ _. either (λ (r : Next). P (r .end)) (blocked e r v) _ _ (λ _. p) (q g)))))
 
   pub health-case : (h : ℕ) → (bad e ≡ false → h ≤ 3 → P (withHealth e h)) → P (healthOf e h .end)
   unfolding healthOf
@@ -96,6 +83,6 @@ pub after-keeps : (P : End → Type 0) (e : End) → (bad e ≡ false → Kept P
 after-keeps P e k p Call.send = send-case P e p (λ g. k g .sent)
 after-keeps P e k p (Call.take s) = take-case P e p s (λ g. k g .took s)
 after-keeps P e k p (Call.read r) = read-case P e p r (λ g _. k g .got r)
-after-keeps P e k p (Call.write r v l) = write-case P e p r v (λ g _ _ _. k g .wrote r v l)
+after-keeps P e k p (Call.write r v l) = write-case P e p r v (λ g _. k g .wrote r v l)
 after-keeps P e k p (Call.health h) = health-case P e p h (λ g. k g .set h)
 after-keeps P e k p Call.present = p

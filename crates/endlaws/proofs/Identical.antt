@@ -16,7 +16,7 @@ use Rattle.end.proofs.End.present.Reads as present
 use Rattle.answer.proofs.number.Reads as number
 use Rattle.answer.specs.Number.{numberOf}
 use Rattle.answer.specs.declared.Answer.{Answer}
-use Rattle.answer.specs.declared.Answer.the-variants.{Done, BadEnd, NoRegister, ReadOnly, Blocked, BadSymbol, BadHealth, BadLength, NothingFound, NotAcceptable}
+use Rattle.answer.specs.declared.Answer.the-variants.{Done, BadEnd, NoRegister, ReadOnly, Blocked, BadSymbol, BadHealth, BadLength, NothingFound, NotAcceptable, ReadOnlyBits}
 
 pub reset-identical : Identical reset.Post
 reset-identical κs a x y s e f = e ∙ sym f
@@ -52,7 +52,8 @@ from (suc (suc (suc (suc (suc zero))))) = BadSymbol
 from (suc (suc (suc (suc (suc (suc zero)))))) = BadHealth
 from (suc (suc (suc (suc (suc (suc (suc zero))))))) = BadLength
 from (suc (suc (suc (suc (suc (suc (suc (suc zero)))))))) = NothingFound
-from (suc (suc (suc (suc (suc (suc (suc (suc (suc n))))))))) = NotAcceptable
+from (suc (suc (suc (suc (suc (suc (suc (suc (suc zero))))))))) = NotAcceptable
+from (suc (suc (suc (suc (suc (suc (suc (suc (suc (suc n)))))))))) = ReadOnlyBits
 
 from-number : (a : Answer) → from (numberOf a) ≡ a
 unfolding from
@@ -66,6 +67,7 @@ from-number BadHealth = refl
 from-number BadLength = refl
 from-number NothingFound = refl
 from-number NotAcceptable = refl
+from-number ReadOnlyBits = refl
 
 pub numberOf-same : (a b : Answer) → numberOf a ≡ numberOf b → a ≡ b
 numberOf-same a b h = sym (from-number a) ∙ (ap from h ∙ from-number b)

@@ -55,7 +55,7 @@ written-leaves e r v b = record {
     control k = eq-eqb r 2308 (unblocked e r v b k)
 
 pub write-leaves : (e : End) (r v : ℕ) → WriteLeaves r e (writeOf e r v .end)
-write-leaves e r v = write-case (WriteLeaves r e) e (search) r v (λ _ _ _. written-leaves e r v)
+write-leaves e r v = write-case (WriteLeaves r e) e (search) r v (λ _. written-leaves e r v)
 
 pub health-leaves : (e : End) (h : ℕ) → HealthLeaves e (healthOf e h .end)
 health-leaves e h = health-case (HealthLeaves e) e (search) h (λ _ _. search)

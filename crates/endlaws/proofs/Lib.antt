@@ -1,5 +1,6 @@
 pub mod Base
 pub mod Decide
+pub mod Stretch
 pub mod Done
 pub mod Shapes
 pub mod Goods

@@ -1,12 +1,12 @@
--- The tests of the definitions decide the rows of document 01's answer table.
---   met, outside-row, received-row, pending-row   rows 1 to 4
---   above-row                                     rows 5 and 6: a number above a limit
+-- The tests of the definitions decide the rows of the answer table.
+--   met, outside-row, received-row, read-only-row, pending-row   rows 1, 2, 3, 10 and 4
+--   above-row                                                    rows 5 and 6: a number above a limit
 -- Assumes nothing.
-use Prim.Native.Nat.{ℕ, suc, _<_, _≤_, _/_, _%_}
+use Prim.Native.Nat.{ℕ, suc, _+_, _<_, _≤_, _/_, _%_}
 use mathlib.Core.Bool.{Bool, true, false, not, _||_, true≢false, false≢true}
 use mathlib.Core.List.{List, [], _∷_}
 use mathlib.Core.Logic.{_⊎_, inl, inr, ⊎-elim}
-use mathlib.Core.Path.{_≡_, refl, sym, _∙_}
+use mathlib.Core.Path.{_≡_, refl, sym, _∙_, subst}
 use native.Mathlib.Omega.{arith}
 use lib.Dec.{eqb, ltb}
 use lib.ListN.{getD}
@@ -14,11 +14,12 @@ use borrow.Author.Tests.{ltb-true, ltb-false, leb-true, leb-false, eqb-true, eqb
 use Rattle.frame.specs.Bits.{odd}
 use Rattle.end.specs.declared.End.{End}
 use Rattle.end.specs.Good.{above, bad}
-use Rattle.end.specs.Registers.{outside, readOnly, blocked}
-use Rattle.endlaws.specs.Rows.{Met, Outside, Received, Pending}
+use Rattle.end.specs.Registers.{outside, readOnly, readOnlyBits, blocked}
+use Rattle.endlaws.specs.Rows.{Met, Outside, Received, ReadOnlyBit, SetsReadOnly, Pending}
 use Rattle.endlaws.proofs.Base.{above-getD, or-cases}
 use Rattle.endlaws.proofs.Decide.{Decides, decides-or, decides-and}
 use Rattle.endlaws.proofs.Goods.{good}
+use Rattle.endlaws.proofs.Stretch.{Bit, stretch-row}
 
 above-some : {C : Type 0} (b : ℕ) (l : List ℕ) → ((i : ℕ) → b < getD l i 0 → C) → above b l ≡ true → C
 unfolding above
@@ -69,13 +70,55 @@ within r h =
 
 pub received-row : (r : ℕ) → ¬ Outside r → Decides (readOnly r) (Received r)
 received-row r h = record {
-  holds = λ t. (leb-true 2313 r t, within r h .1);
+  holds = λ t. (omega (arith, leb-true 2313 r t), within r h .1);
   fails = λ t k. above-not (leb-false 2313 r t) (k .0);
 }
 
+eq-row : (a b : ℕ) → Decides (eqb a b) (a ≡ b)
+eq-row a b = record { holds = eqb-true a b; fails = eqb-false a b }
+
+-- bits 14:12, bits 7:3 and bits 1:0
+abbrev Stretches : ℕ → Type 0
+Stretches v = Bit v 12 3 ⊎ (Bit v 3 5 ⊎ Bit v 0 2)
+
+pub read-only-row : (r v : ℕ) → Decides (readOnlyBits r v) (SetsReadOnly r v)
+read-only-row r v = record { holds = λ t. sets (d .holds t); fails = λ t s. d .fails t (found s) }
+  where
+    lowest : v / 1 ≡ v
+    lowest = omega arith
+
+    d : Decides (readOnlyBits r v) ((r ≡ 2308) × Stretches v)
+    d =
+        decides-and (eqb r 2308) _ (eq-row r 2308)
+        (decides-or _ _ (stretch-row v 12 3)
+        (decides-or _ _ (stretch-row v 3 5)
+        (subst (λ (n : ℕ). Decides (ltb 0 (n % 4)) (Bit v 0 2)) lowest (stretch-row v 0 2))))
+
+    sets : (r ≡ 2308) × Stretches v → SetsReadOnly r v
+    sets (q, s) = at s
+      where
+        one : {k w : ℕ} (b : Bit v k w) → ReadOnlyBit (b .at) → SetsReadOnly r v
+        one b h = record { control = q; bit = b .at; read-only = h; set = b .set }
+
+        at : Stretches v → SetsReadOnly r v
+        at (inl b) = one b (inl (omega (arith, b .from), omega (arith, b .below)))
+        at (inr (inl b)) = one b (inr (inl (omega (arith, b .from), omega (arith, b .below))))
+        at (inr (inr b)) = one b (inr (inr (omega (arith, b .below))))
+
+    found : SetsReadOnly r v → (r ≡ 2308) × Stretches v
+    found s = (s .control, at (s .read-only))
+      where
+        bit : (k w : ℕ) → k ≤ s .bit → s .bit < k + w → Bit v k w
+        bit k w f b = record { at = s .bit; from = f; below = b; set = s .set }
+
+        at : ReadOnlyBit (s .bit) → Stretches v
+        at (inl h) = inl (bit 12 3 (omega (arith, h .0)) (omega (arith, h .1)))
+        at (inr (inl h)) = inr (inl (bit 3 5 (omega (arith, h .0)) (omega (arith, h .1))))
+        at (inr (inr h)) = inr (inr (bit 0 2 (omega arith) (omega (arith, h))))
+
 bit-row : (n : ℕ) → Decides (odd n) (n % 2 ≡ 1)
 unfolding odd
-bit-row n = record { holds = eqb-true (n % 2) 1; fails = eqb-false (n % 2) 1 }
+bit-row n = eq-row (n % 2) 1
 
 -- of the registers that can be written: bit 15 of what is written to 3.2308, or another register
 blocked-row : (r v : ℕ) (t : Bool) → eqb r 2308 ≡ t → (2308 ≤ r) × (r ≤ 2317) → ¬ Received r

@@ -39,6 +39,7 @@ cases = record {
   acknowledged = refl;
   blocked = refl;
   refused = refl;
+  refused-bits = refl;
   take-ruled = refl;
   looks-ruled = refl;
   no-message = refl;

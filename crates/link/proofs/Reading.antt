@@ -26,7 +26,7 @@ use Rattle.endlaws.specs.Shape.{Shaped}
 use Rattle.endlaws.proofs.Base.{or-cases, above-getD}
 use Rattle.endlaws.proofs.Shapes.{after-shaped}
 use Rattle.endlaws.proofs.Goods.{good, after-good}
-use Rattle.endlaws.proofs.Done.{read-good}
+use Rattle.end.proofs.RegisterLaws.{read-done}
 use Rattle.protocol.specs.Steps.{num}
 use Rattle.protocol.proofs.Keeps.{num-le, emptied-receiving}
 use Rattle.link.specs.Link.{Message, Host, Side, read, hosted, receiveSide, ruledCall, pickHost, messageRead}
@@ -261,7 +261,7 @@ module _ {a b : Side} {ca cb : List Cell} {D E pa pb : ℕ} (i : Inv a b ca cb D
 
   module _ (inside : outside r ≡ false) where
     is : readOf (a .end) r ≡ record { answer = Done; value = valueOf (a .end) r; end = readEnd (a .end) r }
-    is = read-good (a .end) r (i .fit-a .good) inside
+    is = read-done (a .end) r (i .fit-a .good) inside
 
     fine : (u : Bool) → eqb r 2317 ≡ u → bad (endBy i u (eqb r 2308)) ≡ false
     fine u q =

@@ -14,20 +14,20 @@ use lib.ListN.{length, getD, List·getD-append}
 use lib.Seq.{getD-append-seam}
 use Rattle.answer.specs.Number.{numberOf}
 use Rattle.answer.specs.declared.Answer.{Answer}
-use Rattle.answer.specs.declared.Answer.the-variants.{Done, NoRegister, ReadOnly, Blocked}
+use Rattle.answer.specs.declared.Answer.the-variants.{Done, NoRegister, ReadOnly, ReadOnlyBits, Blocked}
 use Rattle.frame.specs.Bits.{odd}
 use Rattle.end.specs.declared.End.{End}
 use Rattle.end.specs.declared.Outbox.{Outbox}
 use Rattle.end.specs.declared.Next.{Next}
 use Rattle.end.specs.Good.{bad}
-use Rattle.end.specs.Registers.{outside, readOnly, blocked, writeControl, writeBytes, pickOutbox, written, writeOf}
-use Rattle.end.specs.Registers.{withHealth, healthOf}
+use Rattle.end.specs.Registers.{outside, readOnly, readOnlyBits, blocked, writeControl, writeBytes, pickOutbox, written}
+use Rattle.end.specs.Registers.{writeOf, withHealth, healthOf}
+use Rattle.end.proofs.RegisterLaws.{write-outside, write-only, write-bits, write-blocked, write-done}
 use Rattle.endlaws.specs.Calls.{Call}
 use Rattle.endlaws.specs.Shape.{Shaped}
 use Rattle.endlaws.proofs.Base.{cond-true, cond-false}
 use Rattle.endlaws.proofs.Shapes.{after-shaped}
 use Rattle.endlaws.proofs.Goods.{after-good}
-use Rattle.endlaws.proofs.Done.{write-good}
 use Rattle.protocol.specs.Steps.{num}
 use Rattle.protocol.proofs.Keeps.{Sending, sent-below}
 use Rattle.link.specs.Link.{Message, Side, write, health, hosted, acceptsNow, messageOut}
@@ -195,15 +195,18 @@ module _ {a b : Side} {ca cb : List Cell} {D E pa pb : ℕ} (i : Inv a b ca cb D
           (subst (λ (x : Next). Shaped (x .end)) q (after-shaped (Call.write r v sixteen) (a .end) (i .fit-a .shaped)))
 
   pub write-kept : Inv (hosted (write r v sixteen) a) b ca cb D E pa pb
-  unfolding writeOf
-  write-kept = go (outside r) (readOnly r) (blocked (a .end) r v) refl refl refl
+  write-kept = go (outside r) (readOnly r) (readOnlyBits r v) (blocked (a .end) r v) refl refl refl refl
     where
-      go : (x y z : Bool) → outside r ≡ x → readOnly r ≡ y → blocked (a .end) r v ≡ z
+      good : bad (a .end) ≡ false
+      good = i .fit-a .good
+
+      go : (x y w z : Bool) → outside r ≡ x → readOnly r ≡ y → readOnlyBits r v ≡ w → blocked (a .end) r v ≡ z
           → Keeps (hosted (write r v sixteen) a)
-      go true y z f g h = refused NoRegister refl (rw (i .fit-a .good, f))
-      go false true z f g h = refused ReadOnly refl (rw (i .fit-a .good, f, g))
-      go false false true f g h = refused Blocked refl (rw (i .fit-a .good, f, g, h))
-      go false false false f g h = done h (write-good (a .end) r v (i .fit-a .good) f g h)
+      go true y w z f g m h = refused NoRegister refl (write-outside (a .end) r v good f)
+      go false true w z f g m h = refused ReadOnly refl (write-only (a .end) r v good f g)
+      go false false true z f g m h = refused ReadOnlyBits refl (write-bits (a .end) r v good f g m)
+      go false false false true f g m h = refused Blocked refl (write-blocked (a .end) r v good f g m h)
+      go false false false false f g m h = done h (write-done (a .end) r v good f g m h)
 
 pub health-kept : {a b : Side} {ca cb : List Cell} {D E pa pb : ℕ} → Inv a b ca cb D E pa pb → (h : ℕ)
     → Inv (hosted (health h) a) b ca cb D E pa pb

@@ -20,8 +20,8 @@ use Rattle.link.specs.Tight.{quiet, writes}
 abbrev pub five : Message
 five = record { number = 5; bytes = 0x11 ∷ 0x22 ∷ 0 ∷ 0 ∷ 0 ∷ 0 ∷ 0 ∷ 0 ∷ [] }
 
-pub fits : (0x2211 < 65536) × (0x8500 < 65536) × (0x8600 < 65536)
-fits = (omega arith, omega arith, omega arith)
+pub fits : (0x2211 < 65536) × (0x8500 < 65536) × (0x8600 < 65536) × (0x8540 < 65536)
+fits = (omega arith, omega arith, omega arith, omega arith)
 
 abbrev pub sendsFive : List Event
 sendsFive = atA (write 2309 0x2211 (fits .0)) ∷ atA (write 2308 0x8500 (fits .1)) ∷ []
@@ -51,6 +51,8 @@ pub record Cases : Type 0 where
   pub blocked : run 0 0 (writes ∷ quiet (bound 0 0)) (later 25 0) .a .acknowledged ≡ 1
   -- a second message while one is pending is answered 4 and is not accepted
   pub refused : run 0 0 (atA (write 2308 0x8600 (fits .2)) ∷ []) (later 0 0) .a .accepted ≡ five ∷ []
+  -- nor is one whose write sets a read-only bit, which is answered 10
+  pub refused-bits : run 0 0 (atA (write 2308 0x8540 (fits .3)) ∷ []) start .a .accepted ≡ []
   -- the rule
   pub take-ruled : ruled 0 0 (firstReads 5) (later 12 0) ≡ true
   pub looks-ruled : ruled 0 0 (firstReads 1 ++ firstReads 1) (later 0 0) ≡ true

@@ -1,6 +1,10 @@
-//! Document 01's end in plain Rust, written for the comparison. Every call gives its answer number first.
+//! Document 01's end, with document 02's request #101, in plain Rust, written for the comparison. Every call gives its
+//! answer number first.
 
 use crate::plain::{build, has_right_crc, is_even, Crc};
+
+/// Bits 14:12, 7:3 and 1:0 of 3.2308.
+const READ_ONLY_BITS: u16 = 0x70FB;
 
 /// What the last accepted frame said.
 #[derive(Default)]
@@ -194,6 +198,7 @@ impl End {
             return 1;
         }
         match register {
+            2308 if value & READ_ONLY_BITS != 0 => return 10,
             2308 if self.pending && value >> 15 == 1 => return 4,
             2308 => {
                 if !self.pending {

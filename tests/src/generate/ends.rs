@@ -5,6 +5,8 @@ use super::{Writer, SIDES};
 use crate::end::End;
 use crate::fields::{fields, Field};
 use crate::frame::{build, DATA, MARK, SYMBOLS};
+use crate::random::Random;
+use crate::registers::{READ_ONLY_BITS, TX_CONTROL};
 use crate::script::Script;
 
 pub fn ends(seed: u64, lines: usize) -> Script {
@@ -81,7 +83,7 @@ impl Writer {
             }
         }
         let bit_15 = if self.random.one_in(4) { 0 } else { 0x8000 };
-        let value = bit_15 | self.random.word(0x8000);
+        let value = bit_15 | control_value(&mut self.random) & 0x7FFF;
         self.script.say(format_args!("{} write 2308 {:04X}", SIDES[side], value));
     }
 
@@ -102,7 +104,10 @@ impl Writer {
             0 => self.script.say(format_args!("{} send", name)),
             1 | 2 => self.script.say(format_args!("{} take {:X}", name, symbol)),
             3..=5 => self.script.say(format_args!("{} read {}", name, register)),
-            6..=8 => self.script.say(format_args!("{} write {} {:x}", name, register, value)),
+            6..=8 => {
+                let value = if register == TX_CONTROL { control_value(&mut self.random) } else { value };
+                self.script.say(format_args!("{} write {} {:x}", name, register, value));
+            }
             9 | 10 => self.script.say(format_args!("{} health {:X}", name, health)),
             _ => self.script.say(format_args!("{} present", name)),
         }
@@ -172,6 +177,16 @@ impl Writer {
             None => self.script.say(format_args!("{} set {} {:X}", SIDES[side], name, value)),
             Some(index) => self.script.say(format_args!("{} set {} {} {:X}", SIDES[side], name, index, value)),
         }
+    }
+}
+
+/// A value for 3.2308. Mostly no read-only bit is set, as of all values only one in 1,024 has none.
+pub fn control_value(random: &mut Random) -> u16 {
+    let value = random.word(65536);
+    if random.one_in(8) {
+        value
+    } else {
+        value & !READ_ONLY_BITS
     }
 }
 

@@ -6,7 +6,7 @@ mod frames;
 mod lines;
 mod links;
 
-pub use ends::{ends, good_limit};
+pub use ends::{control_value, ends, good_limit};
 pub use finder::{captures, noise};
 pub use frames::{data_bytes, frames};
 pub use lines::lines;

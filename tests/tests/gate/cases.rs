@@ -1,11 +1,12 @@
-//! Document 01, "Numbers on the bench", and other lines of the page: what is expected is written from the page.
+//! Document 01, "Numbers on the bench", and other lines of the page, and document 02, #101: what is expected is written
+//! from the pages.
 
 use crate::proved_prints;
 use second::console;
 
 /// A name after `#`, then lines `command > what is printed`. Lines with `//` tell of the file itself.
 const CASES: &str = include_str!("cases.txt");
-const CASES_IN_THE_FILE: usize = 28;
+const CASES_IN_THE_FILE: usize = 37;
 
 /// Where answer 1 begins: each field with its largest good value and the next.
 const LIMITS: &[(&str, &str, &str)] = &[
@@ -36,6 +37,7 @@ fn limit_case(field: &str, good: &str, bad: &str) -> String {
          a write 2309 0 > 1
          a write 2318 0 > 1
          a write 2313 0 > 1
+         a write 2308 70FB > 1
          a health 0 > 1
          a health 4 > 1
          a present > no
@@ -45,6 +47,7 @@ fn limit_case(field: &str, good: &str, bad: &str) -> String {
          a read 2307 > 2 0000
          a write 2309 0 > 0
          a write 2313 0 > 3
+         a write 2308 70FB > 10
          a take 400 > 5
          a health 4 > 6
          a take 200 > 0

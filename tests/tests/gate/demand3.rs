@@ -2,8 +2,10 @@
 
 use crate::{seed, tell};
 use second::answer::Answer;
+use second::generate::control_value;
 use second::link::Link;
 use second::random::Random;
+use second::registers::READ_ONLY_BITS;
 use std::time::Instant;
 
 /// Number and the four words of bytes.
@@ -74,9 +76,10 @@ impl Run {
                 assert_eq!(answer == Answer::Done, !was_pending);
             }
         }
-        let value = 0x8000 | self.random.word(0x8000);
-        if end.write(2308, value) != Answer::Done {
-            assert!(was_pending);
+        let value = 0x8000 | control_value(&mut self.random);
+        let answer = end.write(2308, value);
+        assert_eq!(answer, control_answer(value, was_pending));
+        if answer != Answer::Done {
             return;
         }
         let mut message = [value >> 8 & 0xF; 5];
@@ -110,10 +113,22 @@ impl Run {
         match self.random.below(4) {
             0 => drop(end.read(2308 + self.random.word(5))),
             1 => assert_eq!(end.set_health(self.random.word(4)), Answer::Done),
-            // Bit 15 clear: PingTx, and the number where nothing is pending.
-            2 => assert_eq!(end.write(2308, self.random.word(0x8000)), Answer::Done),
+            // Bit 15 clear: PingTx, and the number where nothing is pending; no message is in its way.
+            2 => {
+                let value = control_value(&mut self.random) & 0x7FFF;
+                assert_eq!(end.write(2308, value), control_answer(value, false));
+            }
             _ => assert!(end.is_good()),
         }
+    }
+}
+
+/// What a write to 3.2308 is answered, `blocked` telling whether a pending message stands in its way.
+fn control_answer(value: u16, blocked: bool) -> Answer {
+    match (value & READ_ONLY_BITS, blocked) {
+        (0, false) => Answer::Done,
+        (0, true) => Answer::Blocked,
+        _ => Answer::ReadOnlyBits,
     }
 }
 

@@ -30,19 +30,16 @@ fn all_registers() {
     tell("ends, all registers", script.calls, "calls", start);
 }
 
-/// All values written to each register, with nothing pending and with a message pending.
+/// All values written to each register but 3.2308 (`read_only_bits` has that), with nothing and with a message pending.
 #[test]
 fn all_values_written() {
     let start = Instant::now();
     let mut script = Script::new(seed());
     for pending in 0..2 {
-        for register in 2308..2318 {
+        script.say(format_args!("a set pending {}", pending));
+        for register in 2309..2318 {
             for value in 0..=65535u16 {
                 script.say(format_args!("a write {} {:X}", register, value));
-                if register == 2308 {
-                    script.say(format_args!("a read {}", register));
-                    script.say(format_args!("a set pending {}", pending));
-                }
             }
             script.say(format_args!("a dump"));
         }
@@ -103,6 +100,7 @@ fn every_call(script: &mut Script) {
         "read 2317",
         "read 2318",
         "write 2313 0",
+        "write 2308 8001",
         "write 2309 1",
         "write 2307 0",
         "health 2",

@@ -1,4 +1,4 @@
-//! The proved program against the second implementation, and both against document 01.
+//! The proved program against the second implementation, and both against document 01 with document 02's request #101.
 //!
 //! SIMHADOL_BENCH names the program, SIMHADOL_SEED the first seed.
 
@@ -11,6 +11,7 @@ mod faults;
 mod finder;
 mod frames;
 mod links;
+mod read_only_bits;
 mod vectors;
 
 use second::generate::Kind;

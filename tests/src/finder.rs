@@ -1,10 +1,10 @@
-//! Document 01, "The finder".
+//! Document 01, "The finder", with the limit of request #102.
 
 use crate::answer::Answer;
 use crate::frame::{is_acceptable, Frame, LARGEST_SYMBOL, SYMBOLS};
 
 /// The longest list that is searched.
-pub const LIMIT: usize = 4096;
+pub const LIMIT: usize = 32_768;
 
 /// The answer and the first place where an acceptable frame stands, 0 where there is none.
 pub fn find(list: &[u16]) -> (Answer, usize) {

@@ -107,6 +107,13 @@ module _ (l : List ℕ) where
       let row = pick-7 NothingFound (lit< tt) (leb (length l) limit) (someAbove l) (somewhere l) in
       (λ e. leb-false (length l) limit (row .0 e), λ h. row .1 (lt-leb (length l) limit h))
 
+  -- request #102: 32,768 symbols pass the length check, 32,769 get 7
+  pub longest-passes : length l ≡ 32768 → numberOf (findOf l .answer) ≢ 7
+  longest-passes n e = omega (arith, n, find-7 .0 e)
+
+  pub one-more-refused : length l ≡ 32769 → numberOf (findOf l .answer) ≡ 7
+  one-more-refused n = find-7 .1 (omega (arith, n))
+
   pub find-5 : (numberOf (findOf l .answer) ≡ 5) ↔ ((length l ≤ limit) × (someAbove l ≡ true))
   unfolding findOf answerOf pick
   find-5 =

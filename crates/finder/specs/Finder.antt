@@ -1,5 +1,5 @@
 -- The finder of document 01, "The finder": the first place of a list where twelve symbols pass as an acceptable frame.
---   limit          the longest list that is searched
+--   limit          the longest list that is searched, as request #102 has it
 --   passes l k     the twelve symbols of l from place k on are an acceptable frame
 --   somewhere l    there is a place of l that passes
 --   firstPlace l   how many places of l stand before the first that passes
@@ -20,7 +20,7 @@ use Rattle.frame.specs.Frame.{acceptable}
 use Rattle.finder.specs.declared.Found.{Found}
 
 abbrev pub limit : ℕ
-limit = 4096
+limit = 32768
 
 abbrev pub passes : List ℕ → ℕ → Bool
 passes l k = acceptable (take 12 (drop k l))

@@ -4,8 +4,8 @@ ghost use mathlib.Core.Path.{_≡_};
 ghost use Prim.Native.Nat.{_+_, _*_};
 ghost use Rattle.finder.specs.Finder.{findOf, stretchOf};
 
-// The longest list that is searched.
-const LIMIT: usize = 4096;
+// The longest list that is searched, as request #102 has it.
+const LIMIT: usize = 32768;
 
 // The answer to a search, and the place of what was found: 0 on refusal.
 pub struct Found {

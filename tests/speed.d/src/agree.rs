@@ -37,8 +37,9 @@ pub fn all() {
     for below in [512, 1024] {
         same_lists(&capture(&mut random, below));
     }
-    same_lists(&[]);
-    same_lists(&[0; 4097]);
+    for length in [0, 4097, 32_768, 32_769] {
+        same_lists(&vec![0; length]);
+    }
     for count in SLOTS {
         same("slots", Proved::slots(count), [Plain::<Bitwise>::slots(count), Plain::<Table>::slots(count)]);
     }

@@ -1,9 +1,12 @@
-//! Document 01's frame and finder in plain Rust, written for the comparison. The CRC is either bit by bit or by a table
-//! of 512 bytes; bit 0 of its register is S15.
+//! Document 01's frame and finder, with #102, in plain Rust, written for the comparison. The CRC is either bit by bit or
+//! by a table of 512 bytes; bit 0 of its register is S15.
 
 use crate::plain_end::End;
 use crate::Calls;
 use std::marker::PhantomData;
+
+/// The longest list that is searched: request #102.
+const LIMIT: usize = 32_768;
 
 pub trait Crc {
     fn crc(bytes: &[u8; 10]) -> u16;
@@ -83,7 +86,7 @@ fn check<C: Crc>(list: &[u16]) -> u8 {
 }
 
 fn find<C: Crc>(list: &[u16]) -> (u8, usize) {
-    if list.len() > 4096 {
+    if list.len() > LIMIT {
         return (7, 0);
     }
     if list.iter().any(|symbol| *symbol > 1023) {

@@ -2,7 +2,8 @@
 
 use super::frames::{data_bytes, flip};
 use super::Writer;
-use crate::frame::{build, MARK, SYMBOLS};
+use crate::finder::LIMIT;
+use crate::frame::{build, Frame, MARK, SYMBOLS};
 use crate::random::Random;
 use crate::script::Script;
 
@@ -16,8 +17,16 @@ pub fn captures(seed: u64, lines: usize) -> Script {
 }
 
 fn capture(random: &mut Random) -> Vec<u16> {
-    let length = if random.one_in(100) { random.below(4200) } else { random.below(80) };
+    let length = match random.below(1000) {
+        0 => LIMIT - 20 + random.below(40),
+        1..=10 => random.below(4200),
+        _ => random.below(80),
+    };
+    // Half of them begin with noise, so that the first frame comes late, if at all.
     let mut list = Vec::new();
+    if random.bool() {
+        list = noise(random.of(&NOISES), random.below(length + 1), random);
+    }
     while list.len() < length {
         add_stretch(&mut list, random);
     }
@@ -54,17 +63,37 @@ fn add_stretch(list: &mut Vec<u16>, random: &mut Random) {
     }
 }
 
-/// Symbols among which no frame stands, however long: odd ones alone, even ones alone, or marked ones.
-pub fn noise(length: usize, random: &mut Random) -> Vec<u16> {
-    let kind = random.below(3);
-    (0..length)
-        .map(|_| {
-            let symbol = random.word(512);
-            match kind {
-                0 => symbol ^ u16::from(symbol.count_ones() % 2 == 0),
-                1 => symbol ^ u16::from(symbol.count_ones() % 2 == 1),
-                _ => symbol | MARK,
-            }
-        })
-        .collect()
+/// Symbols among which no frame stands, however many.
+#[derive(Clone, Copy, Debug)]
+pub enum Noise {
+    Odd,
+    Even,
+    Marked,
+    /// Frame after frame, each with two wrong bits in one symbol: the CRC alone shows it.
+    WrongFrames,
+}
+
+pub const NOISES: [Noise; 4] = [Noise::Odd, Noise::Even, Noise::Marked, Noise::WrongFrames];
+
+pub fn noise(kind: Noise, length: usize, random: &mut Random) -> Vec<u16> {
+    let mut list = Vec::new();
+    while list.len() < length {
+        let symbol = random.word(512);
+        let odd = symbol.count_ones() % 2 == 1;
+        match kind {
+            Noise::Odd => list.push(symbol ^ u16::from(!odd)),
+            Noise::Even => list.push(symbol ^ u16::from(odd)),
+            Noise::Marked => list.push(symbol | MARK),
+            Noise::WrongFrames => list.extend(wrong_frame(random)),
+        }
+    }
+    list.truncate(length);
+    list
+}
+
+fn wrong_frame(random: &mut Random) -> Frame {
+    let mut frame = build(&data_bytes(random));
+    let place = random.below(SYMBOLS);
+    flip(&mut frame[place..=place], 2, random);
+    frame
 }

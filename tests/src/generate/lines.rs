@@ -175,11 +175,12 @@ impl Writer {
 
     /// Up to what a list of 33,000 symbols needs.
     fn long_line(&mut self) {
-        match self.random.below(5) {
+        match self.random.below(6) {
             0 => self.script.say_list("find", &vec![0x100; 33_000]),
             1 => self.script.say_bytes(&[b"find ", b"FFFF ".repeat(33_000).as_slice()].concat()),
-            2 => self.script.say_bytes(&b"x".repeat(160_000)),
-            3 => self.script.say_bytes(&[b"a take ", b"0".repeat(100_000).as_slice(), b"3FF"].concat()),
+            2 => self.script.say_bytes(&[b"find ", b"00100 ".repeat(32_768).as_slice()].concat()),
+            3 => self.script.say_bytes(&b"x".repeat(160_000)),
+            4 => self.script.say_bytes(&[b"a take ", b"0".repeat(100_000).as_slice(), b"3FF"].concat()),
             _ => self.script.say_bytes(&[b"#", b" ".repeat(160_000).as_slice()].concat()),
         }
     }

@@ -7,7 +7,7 @@ mod lines;
 mod links;
 
 pub use ends::{control_value, ends, good_limit};
-pub use finder::{captures, noise};
+pub use finder::{captures, noise, NOISES};
 pub use frames::{data_bytes, frames};
 pub use lines::lines;
 pub use links::links;

@@ -1,5 +1,5 @@
-//! Document 01, "Numbers on the bench", and other lines of the page, and document 02, #101: what is expected is written
-//! from the pages.
+//! Document 01, "Numbers on the bench", and other lines of the page, and document 02, #101 and #102: what is expected is
+//! written from the pages.
 
 use crate::proved_prints;
 use second::console;
@@ -59,16 +59,28 @@ fn long_lists() -> String {
     let frame = "000 100 100 100 100 100 100 100 100 100 100 100";
     let odd = |count: usize| "100 ".repeat(count);
     format!(
-        "find {} > 8 0 0
-         find {}{frame} > 0 4084 12
+        "find {}{frame} > 0 4084 12
+         find {}{frame} > 0 4085 12
+         find {}{frame} > 0 32755 12
+         find {}{frame} > 0 32756 12
          find {}{frame} > 7 0 0
+         find {frame} {} > 0 0 12
+         find {frame} {} > 7 0 0
+         find {} > 8 0 0
+         find {} > 7 0 0
          find {frame} {}400 > 5 0 0
          find {frame} {}400 > 7 0 0",
-        odd(4096),
         odd(4084),
         odd(4085),
-        odd(4083),
-        odd(4084),
+        odd(32_755),
+        odd(32_756),
+        odd(32_757),
+        odd(32_756),
+        odd(32_757),
+        odd(32_768),
+        odd(32_769),
+        odd(32_755),
+        odd(32_756),
     )
 }
 
@@ -80,7 +92,7 @@ fn all() -> Vec<(String, String)> {
     }
     assert_eq!(cases.len(), CASES_IN_THE_FILE);
     cases.extend(LIMITS.iter().map(|(field, good, bad)| (format!("answer 1, {field}"), limit_case(field, good, bad))));
-    cases.push(("lists of 4,096 and 4,097".to_string(), long_lists()));
+    cases.push(("lists of 4,096, 4,097, 32,767, 32,768 and 32,769".to_string(), long_lists()));
     cases
 }
 

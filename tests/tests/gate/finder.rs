@@ -2,7 +2,7 @@
 
 use crate::{compare, compare_random, seed, tell};
 use second::frame::build;
-use second::generate::{captures, data_bytes, noise};
+use second::generate::{captures, data_bytes, noise, NOISES};
 use second::random::Random;
 use second::script::Script;
 use std::time::Instant;
@@ -12,9 +12,12 @@ fn random_captures() {
     compare_random("finder", captures, 10, 20_000);
 }
 
+/// The longest list that is searched: request #102.
+const LONGEST: usize = 32_768;
+
 /// A capture without a frame, but for one at `place` where it fits.
 fn with_frame(length: usize, place: usize, random: &mut Random) -> Vec<u16> {
-    let mut list = noise(length, random);
+    let mut list = noise(random.of(&NOISES), length, random);
     let frame = build(&data_bytes(random));
     list.iter_mut().skip(place).zip(frame).for_each(|(symbol, sound)| *symbol = sound);
     list
@@ -40,7 +43,7 @@ fn lengths_and_values() {
     let start = Instant::now();
     let mut random = Random::new(seed());
     let mut script = Script::new(seed());
-    for length in [0, 11, 12, 13, 4094, 4095, 4096, 4097, 5000] {
+    for length in [0, 11, 12, 13, 4096, 4097, LONGEST - 2, LONGEST - 1, LONGEST, LONGEST + 1, 33_000] {
         say_length(&mut script, length, &mut random);
         for value in [1023, 1024, 65535] {
             for place in [0, length / 2, length.saturating_sub(1)] {
@@ -59,13 +62,36 @@ fn say_length(script: &mut Script, length: usize, random: &mut Random) {
     let last = length.saturating_sub(12);
     for (place, fits) in [(length, false), (0, length >= 12), (last, length >= 12), (last + 1, false)] {
         script.say_list("find", &with_frame(length, place, random));
-        let answer = match (length > 4096, fits) {
+        let answer = match (length > LONGEST, fits) {
             (true, _) => "7 0 0".to_string(),
             (false, true) => format!("0 {} 12", place),
             (false, false) => "8 0 0".to_string(),
         };
         assert_eq!(script.last_answer(), answer.as_bytes(), "length {}, place {}", length, place);
     }
+}
+
+/// Whatever comes before it: symbols of one parity, marked ones, or frames that the CRC alone shows to be wrong.
+#[test]
+fn the_only_frame_at_the_very_end() {
+    let start = Instant::now();
+    let mut random = Random::new(seed());
+    let mut script = Script::new(seed());
+    for (length, answer) in [(LONGEST - 1, "0 32755 12"), (LONGEST, "0 32756 12"), (LONGEST + 1, "7 0 0")] {
+        for kind in NOISES {
+            let mut list = noise(kind, length - 12, &mut random);
+            list.extend(build(&data_bytes(&mut random)));
+            script.say_list("find", &list);
+            assert_eq!(script.last_answer(), answer.as_bytes(), "length {}, {:?}", length, kind);
+            // One wrong bit in its last symbol, and there is none.
+            list[length - 1] ^= 1;
+            script.say_list("find", &list);
+            let none = if length > LONGEST { b"7 0 0" } else { b"8 0 0" };
+            assert_eq!(script.last_answer(), none, "length {}, {:?}, a wrong bit", length, kind);
+        }
+    }
+    compare("finder, the very end", &script);
+    tell("finder, the very end", script.lines, "lines", start);
 }
 
 /// A value above 1,023 refuses the whole list, also after a good frame.

@@ -1,4 +1,5 @@
-//! The proved program against the second implementation, and both against document 01 with document 02's request #101.
+//! The proved program against the second implementation, and both against document 01 with document 02's requests #101
+//! and #102.
 //!
 //! SIMHADOL_BENCH names the program, SIMHADOL_SEED the first seed.
 

@@ -2,7 +2,7 @@
 -- are odd. Assumes nothing.
 use Prim.Native.Nat.{ℕ, zero, suc, _+_, _*_, _/_, _%_, _^_, _<_}
 use native.Mathlib.Nat.{mul-assoc, pow-suc, pow-succ', mod-one, mod-lt, one-mul, zero-add, suc-add, div-one}
-use native.Mathlib.Nat.{div-eq-of-lt, div-div-eq-div-mul}
+use native.Mathlib.Nat.{div-eq-of-lt, div-div-eq-div-mul, suc-inj, add-comm, mul-mod-left}
 use native.Mathlib.Omega.{arith}
 use mathlib.Core.Bool.{Bool, true, false, not, cond, xor, _&&_}
 use mathlib.Core.List.{List, [], _∷_, _++_}
@@ -11,9 +11,10 @@ use borrow.Author.Tests.{eq-eqb, ne-eqb}
 use lib.Dec.{eqb}
 use lib.Bits.{differ, bitXor, xor-step}
 use lib.Count.{ones, ones-step}
-use lib.ListN.{length, replicate}
+use lib.ListN.{length, take, drop, replicate}
 use lib.Arith.{mod-mul}
-use lib.Pow.{pow-pos}
+use lib.Pow.{pow-pos, shl-shr, mod-mod-pow, high, low}
+use lib.Seq.{take-at, drop-at}
 use Rattle.frame.specs.Bits.{odd, bits, number, oddOnes}
 use Rattle.frame.specs.Crc.{plus}
 
@@ -163,12 +164,26 @@ bits-append (suc w) v n =
     ∙ ap (λ (k : ℕ). odd n ∷ (bits w (n / 2) ++ bits v k))
     (div-div-eq-div-mul n 2 (2 ^ w) ∙ ap (λ (p : ℕ). n / p) (sym (pow-succ' 2 w)))
 
+-- the bits from a place on
+pub bits-part : (from count rest n : ℕ)
+    → take count (drop from (bits (from + (count + rest)) n)) ≡ bits count (n / 2 ^ from)
+bits-part from count rest n =
+    ap (take count)
+    (ap (drop from) (bits-append from (count + rest) n)
+    ∙ drop-at (bits from n) (bits (count + rest) (n / 2 ^ from)) from (bits-length from n)
+    ∙ bits-append count rest (n / 2 ^ from))
+    ∙ take-at (bits count (n / 2 ^ from)) _ count (bits-length count (n / 2 ^ from))
+
 -- the low w bits are those of the remainder
 pub bits-mod : (w n : ℕ) → bits w (n % 2 ^ w) ≡ bits w n
 bits-mod w n =
     ap (bits w) (sym (number-bits w n))
     ∙ ap (λ (k : ℕ). bits k (number (bits w n))) (sym (bits-length w n))
     ∙ bits-number (bits w n)
+
+-- a remainder by a higher power of two has the same low bits
+pub bits-mod-more : (w v n : ℕ) → bits w (n % 2 ^ (v + w)) ≡ bits w n
+bits-mod-more w v n = sym (bits-mod w (n % 2 ^ (v + w))) ∙ ap (bits w) (mod-mod-pow n v w) ∙ bits-mod w n
 
 pub bits-zero : (w : ℕ) → bits w 0 ≡ replicate w false
 unfolding odd bits
@@ -180,10 +195,45 @@ pub bits-above : (w v n : ℕ) → n < 2 ^ w → bits (w + v) n ≡ bits w n ++ 
 bits-above w v n h =
     bits-append w v n ∙ ap (λ (s : List Bool). bits w n ++ s) (ap (bits v) (div-eq-of-lt h) ∙ bits-zero v)
 
+-- a number moved up by k places
+pub bits-up : (k w n : ℕ) → bits (k + w) (n * 2 ^ k) ≡ replicate k false ++ bits w n
+bits-up k w n =
+    bits-append k w (n * 2 ^ k)
+    ∙ ap₂ _++_ (sym (bits-mod k (n * 2 ^ k)) ∙ ap (bits k) (mul-mod-left n (2 ^ k)) ∙ bits-zero k)
+    (ap (bits w) (shl-shr n k))
+
+-- two numbers side by side, the first one lowest
+pub bits-join : (w v m n : ℕ) → m < 2 ^ w → bits (w + v) (m + n * 2 ^ w) ≡ bits w m ++ bits v n
+bits-join w v m n h =
+    ap (bits (w + v)) (add-comm m (n * 2 ^ w))
+    ∙ bits-append w v (n * 2 ^ w + m)
+    ∙ ap₂ _++_ (sym (bits-mod w (n * 2 ^ w + m)) ∙ ap (bits w) (low n w h)) (ap (bits v) (high n w h))
+
 pub oddOnes-append : (s t : List Bool) → oddOnes (s ++ t) ≡ xor (oddOnes s) (oddOnes t)
 unfolding oddOnes xor
 oddOnes-append [] t = sym (false-xor (oddOnes t))
 oddOnes-append (b ∷ s) t = ap (xor b) (oddOnes-append s t) ∙ sym (xor-assoc b (oddOnes s) (oddOnes t))
+
+pub oddOnes-plus : (s t : List Bool) → length s ≡ length t → oddOnes (plus s t) ≡ xor (oddOnes s) (oddOnes t)
+unfolding oddOnes plus xor
+oddOnes-plus [] [] e = refl
+oddOnes-plus [] (b ∷ t) e = absurd (omega arith)
+oddOnes-plus (a ∷ s) [] e = absurd (omega arith)
+oddOnes-plus (a ∷ s) (b ∷ t) e =
+    ap (xor (xor a b)) (oddOnes-plus s t (suc-inj e)) ∙ xor-swap a b (oddOnes s) (oddOnes t)
+
+-- the zeros above a number do not count
+pub oddOnes-above : (w v n : ℕ) → n < 2 ^ w → oddOnes (bits (w + v) n) ≡ oddOnes (bits w n)
+unfolding oddOnes
+oddOnes-above w v n h =
+    ap oddOnes (bits-above w v n h)
+    ∙ oddOnes-append (bits w n) (replicate v false)
+    ∙ ap (xor (oddOnes (bits w n))) (none v)
+    ∙ xor-false (oddOnes (bits w n))
+  where
+    none : (v : ℕ) → oddOnes (replicate v false) ≡ false
+    none zero = refl
+    none (suc v) = ap (xor false) (none v)
 
 -- ---------------------------------------------------------------- the code's count of ones, and its exclusive or
 
@@ -198,7 +248,7 @@ odd-more (suc zero) n h = go (n % 2) refl (omega arith)
     go (suc (suc r)) e k = absurd (omega arith)
 odd-more (suc (suc r)) n h = absurd (omega arith)
 
-ones-odd : (w n : ℕ) → n < 2 ^ w → odd (ones n) ≡ oddOnes (bits w n)
+pub ones-odd : (w n : ℕ) → n < 2 ^ w → odd (ones n) ≡ oddOnes (bits w n)
 unfolding odd bits oddOnes ones
 ones-odd zero n h = ap (λ (m : ℕ). odd (ones m)) (none n h)
   where
@@ -233,12 +283,16 @@ bits-xor zero a b = refl
 bits-xor (suc w) a b =
     let d = differ-bit (a % 2) (b % 2) (omega arith) (omega arith) in
     ap (bits (suc w)) (xor-step a b)
-    ∙ ap₂ (λ (r n : ℕ). eqb r 1 ∷ bits w n) (low (bitXor (a / 2) (b / 2)) (differ (a % 2) (b % 2)) (d .0))
-    (high (bitXor (a / 2) (b / 2)) (differ (a % 2) (b % 2)) (d .0))
+    ∙ ap₂ (λ (r n : ℕ). eqb r 1 ∷ bits w n) (digit (bitXor (a / 2) (b / 2)) (differ (a % 2) (b % 2)) (d .0))
+    (rest (bitXor (a / 2) (b / 2)) (differ (a % 2) (b % 2)) (d .0))
     ∙ ap₂ {B = List Bool} _∷_ (d .1) (bits-xor w (a / 2) (b / 2))
   where
-    low : (n r : ℕ) → r < 2 → (n * 2 + r) % 2 ≡ r
-    low n r h = omega arith
+    digit : (n r : ℕ) → r < 2 → (n * 2 + r) % 2 ≡ r
+    digit n r h = omega arith
 
-    high : (n r : ℕ) → r < 2 → (n * 2 + r) / 2 ≡ n
-    high n r h = omega arith
+    rest : (n r : ℕ) → r < 2 → (n * 2 + r) / 2 ≡ n
+    rest n r h = omega arith
+
+pub oddOnes-xor : (w a b : ℕ) → oddOnes (bits w (bitXor a b)) ≡ xor (oddOnes (bits w a)) (oddOnes (bits w b))
+oddOnes-xor w a b =
+    ap oddOnes (bits-xor w a b) ∙ oddOnes-plus (bits w a) (bits w b) (bits-length w a ∙ sym (bits-length w b))

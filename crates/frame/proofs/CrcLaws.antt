@@ -89,13 +89,36 @@ plus-zeros [] n e = refl
 plus-zeros (a ∷ s) zero e = absurd (omega arith)
 plus-zeros (a ∷ s) (suc n) e = ap₂ {B = List Bool} _∷_ (xor-false a) (plus-zeros s n (suc-inj e))
 
+pub plus-append : (s t u v : List Bool) → length s ≡ length t → plus (s ++ u) (t ++ v) ≡ plus s t ++ plus u v
+unfolding plus
+plus-append [] [] u v e = refl
+plus-append [] (y ∷ t) u v e = absurd (omega arith)
+plus-append (x ∷ s) [] u v e = absurd (omega arith)
+plus-append (x ∷ s) (y ∷ t) u v e = ap (λ (r : List Bool). xor x y ∷ r) (plus-append s t u v (suc-inj e))
+
 pub plus-snoc : (s t : List Bool) (a b : Bool) → length s ≡ length t
     → plus (s ++ (a ∷ [])) (t ++ (b ∷ [])) ≡ plus s t ++ (xor a b ∷ [])
 unfolding plus
-plus-snoc [] [] a b e = refl
-plus-snoc [] (y ∷ t) a b e = absurd (omega arith)
-plus-snoc (x ∷ s) [] a b e = absurd (omega arith)
-plus-snoc (x ∷ s) (y ∷ t) a b e = ap (λ (r : List Bool). xor x y ∷ r) (plus-snoc s t a b (suc-inj e))
+plus-snoc s t a b e = plus-append s t (a ∷ []) (b ∷ []) e
+
+plus-nil : (s : List Bool) → plus s [] ≡ []
+unfolding plus
+plus-nil [] = refl
+plus-nil (a ∷ s) = refl
+
+pub plus-take : (n : ℕ) (s t : List Bool) → take n (plus s t) ≡ plus (take n s) (take n t)
+unfolding plus
+plus-take zero s t = refl
+plus-take (suc n) [] t = refl
+plus-take (suc n) (a ∷ s) [] = refl
+plus-take (suc n) (a ∷ s) (b ∷ t) = ap (λ (r : List Bool). xor a b ∷ r) (plus-take n s t)
+
+pub plus-drop : (n : ℕ) (s t : List Bool) → drop n (plus s t) ≡ plus (drop n s) (drop n t)
+unfolding plus
+plus-drop zero s t = refl
+plus-drop (suc n) [] t = refl
+plus-drop (suc n) (a ∷ s) [] = sym (plus-nil (drop n s))
+plus-drop (suc n) (a ∷ s) (b ∷ t) = plus-drop n s t
 
 pub times-false : (g : List Bool) → times false g ≡ replicate (length g) false
 unfolding times

@@ -1,10 +1,11 @@
 pub mod BitsLaws
 pub mod CrcLaws
+pub mod LinearLaws
+pub mod WordLaws
 pub mod FrameLaws
 pub mod AcceptLaws
 pub mod DistanceLaws
 pub mod CheckLaws
-pub mod RegisterLaws
 pub mod FillLaws
 pub mod BuildLaws
 pub mod RightLaws

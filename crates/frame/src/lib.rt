@@ -1,5 +1,5 @@
 // The frame of document 01, "The frame": parity, CRC, the twelve symbols of ten bytes, and the frame check.
-mod register;
+mod words;
 
 use answer::Answer;
 ghost use mathlib.Core.Path.{_≡_};
@@ -31,13 +31,10 @@ pub fn parity(symbol: u16) -> bool
 pub fn crc(bytes: [u8; 10]) -> u16
     ensures { λ r. ⌜ r ≡ crcOf bytes ⌝ }
 {
-    let mut register: u16 = 0;
-    let mut i = 0;
-    while i < BYTES {
-        register = register::fed(register, bytes[i]);
-        i += 1;
-    }
-    register
+    let first = words::four(bytes[0], bytes[1], bytes[2], bytes[3]);
+    let second = words::four(bytes[4], bytes[5], bytes[6], bytes[7]);
+    let third = words::two(bytes[8], bytes[9]);
+    words::crc_of(first, second, third)
 }
 
 // The symbol with this data and an even number of ones.

@@ -5,7 +5,7 @@ use line::slots;
 ghost use mathlib.Core.Path.{_≡_};
 ghost use Rattle.answer.specs.Number.{numberOf};
 ghost use Rattle.frame.specs.Check.{checkOf};
-ghost use Rattle.frame.specs.Frame.{crcOf};
+ghost use Rattle.frame.specs.Frame.{crcOf, build};
 ghost use Rattle.finder.specs.Finder.{findOf};
 ghost use Rattle.speed.specs.Line.{start, run};
 
@@ -15,6 +15,14 @@ pub extern "C" fn simhadol_crc(bytes: &[u8; 10]) -> u16
     ensures { λ r. ⌜ r ≡ crcOf (now (bytes .entry)) ⌝ }
 {
     frame::crc(*bytes)
+}
+
+// The twelve symbols of ten bytes.
+#[no_mangle]
+pub extern "C" fn simhadol_build(bytes: &[u8; 10], symbols: &mut [u16; 12])
+    ensures { λ _. ⌜ now (symbols .exit) ≡ build (now (bytes .entry)) ⌝ }
+{
+    *symbols = frame::build(*bytes);
 }
 
 // The frame check's answer number.

@@ -1,6 +1,6 @@
 //! Holds the proved calls against the plain ones on random input, so that what is measured is the same work.
 
-use crate::plain::{Bitwise, Plain, Table};
+use crate::plain::{Bitwise, Boost, Plain, Table};
 use crate::proved::Proved;
 use crate::random::Random;
 use crate::{capture, frame, Calls};
@@ -8,22 +8,26 @@ use crate::{capture, frame, Calls};
 const TURNS: u32 = 20_000;
 const SLOTS: [u32; 5] = [0, 1, 25, 4_800, 100_000];
 
-fn same<T: PartialEq + std::fmt::Debug>(call: &str, proved: T, others: [T; 2]) {
-    let [bitwise, table] = &others;
-    assert!(proved == *bitwise && proved == *table, "{call}: {proved:?} and {others:?}");
+macro_rules! same {
+    ($call:ident, $input:expr) => {
+        let proved = Proved::$call($input);
+        let others = [Plain::<Bitwise>::$call($input), Plain::<Table>::$call($input), Plain::<Boost>::$call($input)];
+        assert!(others.iter().all(|other| *other == proved), "{}: {:?} and {:?}", stringify!($call), proved, others);
+    };
 }
 
 fn same_lists(list: &[u16]) {
-    same("check", Proved::check(list), [Plain::<Bitwise>::check(list), Plain::<Table>::check(list)]);
-    same("found", Proved::found(list), [Plain::<Bitwise>::found(list), Plain::<Table>::found(list)]);
-    same("place", Proved::place(list), [Plain::<Bitwise>::place(list), Plain::<Table>::place(list)]);
+    same!(check, list);
+    same!(found, list);
+    same!(place, list);
 }
 
 pub fn all() {
     let mut random = Random::new(2);
     for turn in 0..TURNS {
         let bytes = random.bytes();
-        same("crc", Proved::crc(&bytes), [Plain::<Bitwise>::crc(&bytes), Plain::<Table>::crc(&bytes)]);
+        same!(crc, &bytes);
+        same!(build, &bytes);
         // Good frames, frames with one symbol changed, and lists with a frame somewhere or none.
         let mut list = frame(&mut random).to_vec();
         if turn % 2 == 1 {
@@ -41,7 +45,7 @@ pub fn all() {
         same_lists(&vec![0; length]);
     }
     for count in SLOTS {
-        same("slots", Proved::slots(count), [Plain::<Bitwise>::slots(count), Plain::<Table>::slots(count)]);
+        same!(slots, count);
     }
     println!("the same results on {TURNS} random lists, two captures and {} slots", SLOTS.iter().sum::<u32>());
 }

@@ -8,7 +8,7 @@ mod plain_end;
 mod proved;
 mod random;
 
-use plain::{Bitwise, Plain, Table};
+use plain::{Bitwise, Boost, Plain, Table};
 use proved::Proved;
 use random::Random;
 use std::ptr::read_volatile;
@@ -16,6 +16,8 @@ use std::ptr::read_volatile;
 /// What is compared.
 pub trait Calls {
     fn crc(bytes: &[u8; 10]) -> u16;
+    /// The twelve symbols of ten bytes.
+    fn build(bytes: &[u8; 10]) -> [u16; 12];
     /// The frame check's answer number.
     fn check(list: &[u16]) -> u8;
     /// The finder's answer number, and its place.
@@ -57,6 +59,11 @@ fn work<C: Calls>(work: &str, count: u32) -> u64 {
             let bytes: Vec<_> = (0..64).map(|_| random.bytes()).collect();
             sum_over(count, &bytes, |ten| u64::from(C::crc(ten)))
         }
+        "build" => {
+            let bytes: Vec<_> = (0..64).map(|_| random.bytes()).collect();
+            // Which symbol is looked at is not known beforehand, so all twelve are made.
+            sum_over(count, &bytes, |ten| u64::from(C::build(ten)[usize::from(ten[0]) % 12]))
+        }
         _ => panic!("no such work: {work}"),
     }
 }
@@ -72,6 +79,7 @@ fn main() {
                 "proved" => work::<Proved>(name, count),
                 "bitwise" => work::<Plain<Bitwise>>(name, count),
                 "table" => work::<Plain<Table>>(name, count),
+                "boost" => work::<Plain<Boost>>(name, count),
                 _ => panic!("no such implementation: {who}"),
             }
         }

@@ -1,5 +1,5 @@
-//! Document 01's frame and finder, with #102, in plain Rust, written for the comparison. The CRC is either bit by bit or
-//! by a table of 512 bytes; bit 0 of its register is S15.
+//! Document 01's frame and finder, with #102, in plain Rust, written for the comparison. The CRC is worked bit by bit,
+//! by a table of 512 bytes, or by Boost; bit 0 of its register is S15.
 
 use crate::plain_end::End;
 use crate::Calls;
@@ -15,6 +15,12 @@ pub trait Crc {
 pub struct Bitwise;
 
 pub struct Table;
+
+pub struct Boost;
+
+extern "C" {
+    fn boost_crc(ten_bytes: *const u8) -> u16;
+}
 
 const fn eight_bits(mut register: u16) -> u16 {
     let mut bit = 0;
@@ -47,17 +53,35 @@ impl Crc for Table {
     }
 }
 
+impl Crc for Boost {
+    fn crc(bytes: &[u8; 10]) -> u16 {
+        // It reads these ten bytes and no more.
+        unsafe { boost_crc(bytes.as_ptr()) }
+    }
+}
+
 pub fn is_even(symbol: u16) -> bool {
     (symbol & 0x1FF).count_ones() % 2 == 0
 }
 
-pub fn build<C: Crc>(bytes: &[u8; 10]) -> [u16; 12] {
-    let [low, high] = C::crc(bytes).to_le_bytes();
-    let mut frame = [0; 12];
-    for (place, byte) in bytes.iter().chain(&[low, high]).enumerate() {
-        let symbol = u16::from(*byte);
-        frame[place] = if is_even(symbol) == (place == 0) { symbol } else { symbol | 256 };
+/// The symbol with this data and an even number of ones, or an odd one.
+fn symbol(byte: u8, even: bool) -> u16 {
+    let data = u16::from(byte);
+    if is_even(data) == even {
+        data
+    } else {
+        data | 256
     }
+}
+
+pub fn build<C: Crc>(bytes: &[u8; 10]) -> [u16; 12] {
+    let mut frame = [0; 12];
+    for (place, byte) in bytes.iter().enumerate() {
+        frame[place] = symbol(*byte, place == 0);
+    }
+    let [low, high] = C::crc(bytes).to_le_bytes();
+    frame[10] = symbol(low, false);
+    frame[11] = symbol(high, false);
     frame
 }
 
@@ -105,6 +129,10 @@ pub struct Plain<C>(PhantomData<C>);
 impl<C: Crc> Calls for Plain<C> {
     fn crc(bytes: &[u8; 10]) -> u16 {
         C::crc(bytes)
+    }
+
+    fn build(bytes: &[u8; 10]) -> [u16; 12] {
+        build::<C>(bytes)
     }
 
     fn check(list: &[u16]) -> u8 {

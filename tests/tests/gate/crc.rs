@@ -1,7 +1,7 @@
 //! The CRC against what others published and built.
 
 use crate::{compare, seed, tell};
-use second::frame::crc;
+use second::frame::{crc, DATA};
 use second::generate::data_bytes;
 use second::random::Random;
 use second::script::Script;
@@ -9,6 +9,9 @@ use std::io::Write;
 use std::process::{Command, Stdio};
 use std::thread;
 use std::time::Instant;
+
+/// The bits of a message.
+const BITS: usize = 8 * DATA;
 
 /// Debian's python3-crcmod. Its reflected register has S15 in bit 0, so the low byte is symbol 10's.
 const OUTSIDE: &str = "
@@ -31,19 +34,39 @@ fn published_check_value() {
 
 #[test]
 fn outside_implementation() {
-    let start = Instant::now();
     let mut random = Random::new(seed());
+    compare_outside("crc, random", (0..150_000).map(|_| data_bytes(&mut random)));
+}
+
+/// Every message with one to three of its eighty bits set, as many as demand 2 speaks of, and every one with as many
+/// clear. A wrong shift shows in one bit; a carry where none belongs shows in two.
+#[test]
+fn few_ones_and_few_zeros() {
+    let places = (0..BITS).flat_map(|i| (i..BITS).flat_map(move |j| (j..BITS).map(move |k| [i, j, k])));
+    // Of the ways to name a place twice one is left, so that each message comes once.
+    let places = places.filter(|[i, j, k]| j < k || i == k);
+    let ones = places.map(|places| places.iter().fold(0u128, |message, place| message | 1 << place));
+    let messages = ones.flat_map(|message| [message, !message]).map(|message| message.to_le_bytes());
+    compare_outside(
+        "crc, few",
+        messages.map(|bytes| bytes[..DATA].try_into().expect("as many bytes as are asked for")),
+    );
+}
+
+/// The bench, the second implementation and crcmod on the same messages.
+fn compare_outside(name: &str, messages: impl Iterator<Item = [u8; DATA]>) {
+    let start = Instant::now();
     let mut script = Script::new(seed());
     let mut inputs = String::new();
-    for _ in 0..150_000 {
-        let hex: Vec<String> = data_bytes(&mut random).iter().map(|byte| format!("{:02X}", byte)).collect();
+    for message in messages {
+        let hex: Vec<String> = message.iter().map(|byte| format!("{:02X}", byte)).collect();
         let hex = hex.join(" ");
         script.say(format_args!("crc {}", hex));
         inputs += &(hex + "\n");
     }
     assert!(script.expected == outside(&inputs), "crcmod and the second implementation differ");
-    compare("crc, outside", &script);
-    tell("crc, outside", script.lines, "inputs", start);
+    compare(name, &script);
+    tell(name, script.lines, "inputs", start);
 }
 
 /// Debian's own Python, as another one would not see Debian's modules.

@@ -1,67 +1,75 @@
--- `frame::crc` meets its contract: the bytes still to come, run from the register as it is, give the CRC. Assumes
--- nothing.
-use Prim.Native.Nat.{_-_, _≤_, _<_}
-use mathlib.Core.Path.{_≡_, _∙_}
+-- `frame::crc` meets its contract: its three words are the ten bytes. Assumes nothing.
 use borrow.Author.Needs.{needs}
-use lib.ListN.{drop}
-use Rattle.frame.specs.Bits.{bits}
-use Rattle.frame.specs.Crc.{run, crc}
-use Rattle.frame.specs.Frame.{generator, stream}
-use Rattle.frame.proofs.RegisterLaws.{crc-start, crc-more, crc-end}
+use Rattle.frame.proofs.WordLaws.{ten-crc}
 use Rattle.frame.proofs.crc.Statement.{statement}
 use Rattle.frame.proofs.crc.Tie as tie
 
-abbrev Inv-loop : tie.InvT-loop
-Inv-loop bytes register₀ i₀ register i =
-    (i ≤ 10) × (register < 65536) × (run generator (bits 16 register) (stream (drop i bytes)) ≡ crc generator
-    (stream bytes))
+array-read-four : tie.Need-array-read-four
+array-read-four c = search needs
 
-abbrev μ-loop : tie.MeasureT-loop
-μ-loop bytes register₀ i₀ register i = 10 - i
+array-read-four-2 : tie.Need-array-read-four-2
+array-read-four-2 c = search needs
 
-loop-holds : tie.Need-loop-holds Inv-loop μ-loop
-loop-holds c = (search needs, search needs, crc-start (c .args .t1))
+array-read-four-3 : tie.Need-array-read-four-3
+array-read-four-3 c = search needs
 
-array-read-fed : tie.Need-array-read-fed Inv-loop μ-loop
-array-read-fed c = search needs
+array-read-four-4 : tie.Need-array-read-four-4
+array-read-four-4 c = search needs
 
-fed-requires : tie.Need-fed-requires Inv-loop μ-loop
-fed-requires c κs = search needs
+four-requires : tie.Need-four-requires
+four-requires c κs = search needs
 
-add-i : tie.Need-add-i Inv-loop μ-loop
-add-i c = search needs
+array-read-four-5 : tie.Need-array-read-four-5
+array-read-four-5 c = search needs
 
-loop-less : tie.Need-loop-less Inv-loop μ-loop
-loop-less c = search needs
+array-read-four-6 : tie.Need-array-read-four-6
+array-read-four-6 c = search needs
 
-loop-again : tie.Need-loop-again Inv-loop μ-loop
-loop-again c =
-    let at = c .before .before .loop in
-    let bytes = c .before .before .before in (
-      search needs,
-      c .fed .ok,
-      crc-more (bytes .args .t1) (at .i) (at .register) (c .fed .result)
-          (rw (bytes .good .0 .1 .0 .1) (c .before .loop-test .taken)) (c .fed .ensures)
-          ∙ at .inv .2,
-    )
+array-read-four-7 : tie.Need-array-read-four-7
+array-read-four-7 c = search needs
 
-returns : tie.Need-returns Inv-loop μ-loop
+array-read-four-8 : tie.Need-array-read-four-8
+array-read-four-8 c = search needs
+
+four-requires-2 : tie.Need-four-requires-2
+four-requires-2 c κs = search needs
+
+array-read-two : tie.Need-array-read-two
+array-read-two c = search needs
+
+array-read-two-2 : tie.Need-array-read-two-2
+array-read-two-2 c = search needs
+
+two-requires : tie.Need-two-requires
+two-requires c κs = search needs
+
+crc-of-requires : tie.Need-crc-of-requires
+crc-of-requires c κs = search needs
+
+returns : tie.Need-returns
 returns c =
-    let at = c .before .loop in
-    crc-end (c .before .before .args .t1) (at .i) (at .register)
-    (rw (c .before .before .good .0 .1 .0 .1) (c .loop-test .left)) (at .inv .1)
-    (at .inv .2)
+    let at = c .before .before .before .before in
+    ten-crc (at .args .t1) (c .crc-of .result) (c .before .before .before .four .result)
+    (c .before .before .four2 .result) (c .before .two .result) (at .good .0 .1 .0 .1) (c .crc-of .ok)
+    (c .before .before .before .four .ensures) (c .before .before .four2 .ensures) (c .before .two .ensures)
+    (c .crc-of .ensures)
 
 pub crc-spec : {M : Type 1} → statement M
 crc-spec =
     tie.close
     (tie.spec
-    Inv-loop
-    μ-loop
-    loop-holds
-    array-read-fed
-    fed-requires
-    add-i
-    loop-less
-    loop-again
+    array-read-four
+    array-read-four-2
+    array-read-four-3
+    array-read-four-4
+    four-requires
+    array-read-four-5
+    array-read-four-6
+    array-read-four-7
+    array-read-four-8
+    four-requires-2
+    array-read-two
+    array-read-two-2
+    two-requires
+    crc-of-requires
     returns)

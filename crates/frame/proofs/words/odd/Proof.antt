@@ -1,0 +1,12 @@
+-- `frame::words::odd` meets its contract: the count of ones is odd where their exclusive or is. Assumes nothing.
+use Rattle.frame.specs.Bits.{odd}
+use Rattle.frame.proofs.BitsLaws.{ones-odd}
+use Rattle.frame.proofs.words.odd.Statement.{statement}
+use Rattle.frame.proofs.words.odd.Tie as tie
+
+returns : tie.Need-returns
+unfolding odd
+returns c = ones-odd 32 (c .args .word) (c .fits .word .fits)
+
+pub odd-spec : {M : Type 1} → statement M
+odd-spec = tie.close (tie.spec returns)

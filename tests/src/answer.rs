@@ -1,4 +1,4 @@
-//! Document 01, "Answer numbers"; 10 is from document 02, #101.
+//! Document 01, "Answer numbers"; from document 02, 10 is #101's and 11 is #104's.
 
 #[derive(Clone, Copy, Debug, PartialEq, Eq)]
 pub enum Answer {
@@ -13,6 +13,7 @@ pub enum Answer {
     NotFound = 8,
     NotAcceptable = 9,
     ReadOnlyBits = 10,
+    BadRecord = 11,
 }
 
 impl Answer {

@@ -1,6 +1,6 @@
 //! One end: document 01, "Sending, one symbol a slot" and "Taking, one symbol". The registers are in `registers`.
 //!
-//! Every field is public, as any record may come in; one that is out of range is answered 1 and left as it was.
+//! Every field is public, as any end may come in; one that is out of range is answered 1 and left as it was.
 
 use crate::answer::Answer;
 use crate::frame::{build, data_of, has_right_crc, is_even, is_marked, Frame, DATA, LARGEST_SYMBOL, SYMBOLS};
@@ -56,7 +56,7 @@ impl End {
         End { ready: true, ..End::default() }
     }
 
-    /// Whether answer 1 doesn't meet this record.
+    /// Whether answer 1 does not meet this end.
     pub fn is_good(&self) -> bool {
         self.position <= LAST
             && self.count <= LAST

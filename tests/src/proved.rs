@@ -3,16 +3,21 @@
 use std::env;
 use std::io::Write;
 use std::path::PathBuf;
-use std::process::{Child, Command, ExitStatus, Stdio};
+use std::process::{Child, Command, ExitStatus, Output, Stdio};
 use std::thread;
 
 /// Names the program to be tested; a relative path is seen from this package.
 const PROGRAM: &str = "SIMHADOL_BENCH";
 const DEFAULT_PROGRAM: &str = "../bench";
 
+/// The folder of this package. Cargo names it to what it runs, so that a copied tree tests its own programs though it
+/// was compiled elsewhere; what runs without cargo has the folder it was compiled in.
+pub fn package() -> PathBuf {
+    env::var_os("CARGO_MANIFEST_DIR").unwrap_or_else(|| env!("CARGO_MANIFEST_DIR").into()).into()
+}
+
 fn path() -> PathBuf {
-    let package = PathBuf::from(env!("CARGO_MANIFEST_DIR"));
-    package.join(env::var_os(PROGRAM).unwrap_or_else(|| DEFAULT_PROGRAM.into()))
+    package().join(env::var_os(PROGRAM).unwrap_or_else(|| DEFAULT_PROGRAM.into()))
 }
 
 /// Starts the program with its input and output in our hands.
@@ -27,7 +32,12 @@ pub fn start() -> Result<Child, String> {
 
 /// What the program prints for `input`, and how it ended.
 pub fn run(input: &[u8]) -> Result<(Vec<u8>, ExitStatus), String> {
-    let mut child = start()?;
+    let output = feed(start()?, input)?;
+    Ok((output.stdout, output.status))
+}
+
+/// Gives a program all its input, and waits for its end.
+pub fn feed(mut child: Child, input: &[u8]) -> Result<Output, String> {
     let mut stdin = child.stdin.take().ok_or("no standard input")?;
     // The input is written beside the reading, as neither pipe holds a whole script. A program that stops reading
     // shows by its output and status, so a failed write says nothing more.
@@ -35,6 +45,5 @@ pub fn run(input: &[u8]) -> Result<(Vec<u8>, ExitStatus), String> {
         scope.spawn(move || stdin.write_all(input));
         child.wait_with_output()
     });
-    let output = output.map_err(|why| why.to_string())?;
-    Ok((output.stdout, output.status))
+    output.map_err(|why| why.to_string())
 }

@@ -1,5 +1,5 @@
-// Document 01, "Answer numbers", and answer 10 of request #101. An answer is an enum without data; its number is what the
-// table says.
+// Document 01, "Answer numbers", answer 10 of request #101 and 11 of #104. An answer is an enum without data; its number
+// is what the table says.
 ghost use mathlib.Core.Path.{_≡_};
 ghost use Rattle.answer.specs.Number.{numberOf};
 
@@ -15,6 +15,7 @@ pub enum Answer {
     NothingFound,
     NotAcceptable,
     ReadOnlyBits,
+    BadRecord,
 }
 
 // The number in the table.
@@ -33,5 +34,6 @@ pub fn number(answer: Answer) -> u8
         Answer::NothingFound => 8,
         Answer::NotAcceptable => 9,
         Answer::ReadOnlyBits => 10,
+        Answer::BadRecord => 11,
     }
 }

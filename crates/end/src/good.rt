@@ -56,7 +56,7 @@ impl End {
         }
     }
 
-    // Partner present: a frame was accepted since reset. A record that answer 1 would meet says no.
+    // Partner present: a frame was accepted since reset. An end that answer 1 would meet says no.
     pub fn present(self) -> bool
         ensures { λ r. ⌜ r ≡ presentOf self ⌝ }
     {

@@ -1,5 +1,5 @@
 // One end of the OAM channel, document 01: a struct by value of parts. Each call takes the old end and gives the next
-// one with its answer; any record may come in, and one that answer 1 meets comes back as it was.
+// one with its answer; any end may come in, and one that answer 1 meets comes back as it was.
 //
 // In these files conditions are joined by `&` and `|`, not `&&` and `||`: no part of one can fail, and with no branch
 // in it a condition is one equation to its definition.

@@ -16,7 +16,7 @@ use Rattle.end.proofs.End.present.Reads as present
 use Rattle.answer.proofs.number.Reads as number
 use Rattle.answer.specs.Number.{numberOf}
 use Rattle.answer.specs.declared.Answer.{Answer}
-use Rattle.answer.specs.declared.Answer.the-variants.{Done, BadEnd, NoRegister, ReadOnly, Blocked, BadSymbol, BadHealth, BadLength, NothingFound, NotAcceptable, ReadOnlyBits}
+use Rattle.answer.specs.declared.Answer.the-variants.{Done, BadEnd, NoRegister, ReadOnly, Blocked, BadSymbol, BadHealth, BadLength, NothingFound, NotAcceptable, ReadOnlyBits, BadRecord}
 
 pub reset-identical : Identical reset.Post
 reset-identical κs a x y s e f = e ∙ sym f
@@ -53,7 +53,8 @@ from (suc (suc (suc (suc (suc (suc zero)))))) = BadHealth
 from (suc (suc (suc (suc (suc (suc (suc zero))))))) = BadLength
 from (suc (suc (suc (suc (suc (suc (suc (suc zero)))))))) = NothingFound
 from (suc (suc (suc (suc (suc (suc (suc (suc (suc zero))))))))) = NotAcceptable
-from (suc (suc (suc (suc (suc (suc (suc (suc (suc (suc n)))))))))) = ReadOnlyBits
+from (suc (suc (suc (suc (suc (suc (suc (suc (suc (suc zero)))))))))) = ReadOnlyBits
+from (suc (suc (suc (suc (suc (suc (suc (suc (suc (suc (suc n))))))))))) = BadRecord
 
 from-number : (a : Answer) → from (numberOf a) ≡ a
 unfolding from
@@ -68,6 +69,7 @@ from-number BadLength = refl
 from-number NothingFound = refl
 from-number NotAcceptable = refl
 from-number ReadOnlyBits = refl
+from-number BadRecord = refl
 
 pub numberOf-same : (a b : Answer) → numberOf a ≡ numberOf b → a ≡ b
 numberOf-same a b h = sym (from-number a) ∙ (ap from h ∙ from-number b)

@@ -56,17 +56,8 @@ impl Writer {
         }
     }
 
-    /// Any ten bytes, symbol 1's bits half the time as the end's toggles want them.
     fn telling_bytes(&mut self, side: usize) -> [u8; DATA] {
-        let mut data = super::data_bytes(&mut self.random);
-        let end = self.script.end(side);
-        if self.random.bool() {
-            data[1] = data[1] & !0x40 | u8::from(end.expected_toggle) << 6 | 0x80;
-        }
-        if self.random.bool() {
-            data[1] = data[1] & !0x10 | u8::from(end.sending_toggle) << 4 | 0x20;
-        }
-        data
+        telling_bytes(self.script.end(side), &mut self.random)
     }
 
     fn sends(&mut self, side: usize) {
@@ -178,6 +169,18 @@ impl Writer {
             Some(index) => self.script.say(format_args!("{} set {} {} {:X}", SIDES[side], name, index, value)),
         }
     }
+}
+
+/// Any ten bytes, symbol 1's bits half the time as the end's toggles want them.
+pub fn telling_bytes(end: &End, random: &mut Random) -> [u8; DATA] {
+    let mut data = super::data_bytes(random);
+    if random.bool() {
+        data[1] = data[1] & !0x40 | u8::from(end.expected_toggle) << 6 | 0x80;
+    }
+    if random.bool() {
+        data[1] = data[1] & !0x10 | u8::from(end.sending_toggle) << 4 | 0x20;
+    }
+    data
 }
 
 /// A value for 3.2308. Mostly no read-only bit is set, as of all values only one in 1,024 has none.

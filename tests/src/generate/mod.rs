@@ -5,12 +5,14 @@ mod finder;
 mod frames;
 mod lines;
 mod links;
+mod records;
 
 pub use ends::{control_value, ends, good_limit};
 pub use finder::{captures, noise, NOISES};
 pub use frames::{data_bytes, frames};
 pub use lines::lines;
 pub use links::links;
+pub use records::{about_to_accept, any_call, any_good_end, damaged, wander};
 
 use crate::random::Random;
 use crate::script::Script;

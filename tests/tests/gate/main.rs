@@ -1,7 +1,7 @@
-//! The proved program against the second implementation, and both against document 01 with document 02's requests #101
-//! and #102.
+//! The proved program and the calls from C against the second implementation, and all against document 01 with document
+//! 02's requests #101, #102 and #104.
 //!
-//! SIMHADOL_BENCH names the program, SIMHADOL_SEED the first seed.
+//! SIMHADOL_BENCH names the program, SIMHADOL_C the folder of the C programs, SIMHADOL_SEED the first seed.
 
 mod cases;
 mod console;
@@ -11,8 +11,12 @@ mod ends;
 mod faults;
 mod finder;
 mod frames;
+mod layout;
 mod links;
+mod programs;
 mod read_only_bits;
+mod record_runs;
+mod records;
 mod vectors;
 
 use second::generate::Kind;
@@ -29,11 +33,14 @@ fn seed() -> u64 {
     }
 }
 
-/// Says seed, count and time of a test that passed. It writes to the stream itself, as the test runner keeps back what
-/// is printed.
+/// Says seed, count and time of a test that passed.
 fn tell(name: &str, count: usize, what: &str, start: Instant) {
-    let line = format!("{}: seed {}, {} {}, {:.1} s\n", name, seed(), count, what, start.elapsed().as_secs_f64());
-    std::io::stderr().write_all(line.as_bytes()).expect("standard error takes a line");
+    say(&format!("{}: seed {}, {} {}, {:.1} s", name, seed(), count, what, start.elapsed().as_secs_f64()));
+}
+
+/// Writes to the stream itself, as the test runner keeps back what is printed.
+fn say(line: &str) {
+    std::io::stderr().write_all(format!("{}\n", line).as_bytes()).expect("standard error takes a line");
 }
 
 /// What the proved program prints, having ended well.

@@ -2,15 +2,16 @@
 
 use crate::{proved_prints, tell};
 use second::console;
+use second::proved::package;
 use second::script::first_difference;
 use std::fs;
-use std::path::{Path, PathBuf};
+use std::path::PathBuf;
 use std::time::Instant;
 
 const EXPECTED: &str = "102";
 
 fn folder() -> PathBuf {
-    Path::new(env!("CARGO_MANIFEST_DIR")).join("vectors")
+    package().join("vectors")
 }
 
 /// Name, script and expected output of each vector.
@@ -28,7 +29,7 @@ fn vectors() -> Vec<(String, Vec<u8>, Vec<u8>)> {
     }
     assert_eq!(found.len(), 8);
     // the story that the README plays is held to its output as well
-    let docs = Path::new(env!("CARGO_MANIFEST_DIR")).join("../docs");
+    let docs = package().join("../docs");
     found.push((
         "docs/freeze".to_string(),
         fs::read(docs.join("freeze.txt")).expect("docs/freeze.txt can be read"),

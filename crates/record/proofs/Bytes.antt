@@ -1,0 +1,107 @@
+-- Laws of lists of bytes on which the proofs of the leaves stand.
+--   append-step      storing an element behind a prefix makes the prefix longer by it
+--   copy-step        copying a list behind a prefix, an element at a time
+--   exceeds-step     the search for a byte above its limit, an element at a time; none-left, at its end
+--   twos-step        two bytes stored for one number more
+--   pairs-step       one number stored for two bytes more
+-- Assumes nothing.
+use Prim.Native.Nat.{ℕ, zero, suc, _+_, _*_, _/_, _%_, _<_, _≤_}
+use mathlib.Core.Bool.{Bool, true, false, _||_}
+use mathlib.Core.List.{List, [], _∷_, _++_, append-assoc}
+use mathlib.Core.Path.{_≡_, refl, sym, ap, ap₂, _∙_}
+use native.Mathlib.Nat.{le-of-suc-le-suc}
+use native.Mathlib.Numerals.{add-one}
+use native.Mathlib.Omega.{arith}
+use lib.Dec.{ltb}
+use lib.ListN.{length, getD, set, take, drop, length-set}
+use Rattle.record.specs.Record.{exceeds, two, twos, pairs}
+
+set-prefix : (l : List ℕ) (i v : ℕ) → i < length l → take (suc i) (set l i v) ≡ take i l ++ (v ∷ [])
+set-prefix [] i v h = absurd (omega arith)
+set-prefix (x ∷ l) zero v h = refl
+set-prefix (x ∷ l) (suc i) v h = ap (λ (t : List ℕ). x ∷ t) (set-prefix l i v (le-of-suc-le-suc h))
+
+take-more : (l : List ℕ) (i : ℕ) → i < length l → take (suc i) l ≡ take i l ++ (getD l i 0 ∷ [])
+take-more [] i h = absurd (omega arith)
+take-more (x ∷ l) zero h = refl
+take-more (x ∷ l) (suc i) h = ap (λ (t : List ℕ). x ∷ t) (take-more l i (le-of-suc-le-suc h))
+
+pub append-step : (d p : List ℕ) (k v : ℕ) → k < length d → take k d ≡ p → take (suc k) (set d k v) ≡ p ++ (v ∷ [])
+append-step d p k v h e = set-prefix d k v h ∙ ap (λ (t : List ℕ). t ++ (v ∷ [])) e
+
+pub copy-step : (d p l : List ℕ) (k i v : ℕ) → k < length d → i < length l → v ≡ getD l i 0 → take k d ≡ p ++ take i l
+    → take (suc k) (set d k v) ≡ p ++ take (suc i) l
+copy-step d p l k i v h j e t =
+    append-step d (p ++ take i l) k v h t
+    ∙ (append-assoc p (take i l) (v ∷ [])
+    ∙ ap (λ (t : List ℕ). p ++ t) (ap (λ (x : ℕ). take i l ++ (x ∷ [])) e ∙ sym (take-more l i j)))
+
+-- The search
+
+or-assoc : (a b c : Bool) → ((a || b) || c) ≡ (a || (b || c))
+or-assoc true b c = refl
+or-assoc false b c = refl
+
+pub exceeds-step : (f : Bool) (l m : List ℕ) (i : ℕ) → i < length l → i < length m
+    → ((f || ltb (getD m i 0) (getD l i 0)) || exceeds (drop (suc i) l) (drop (suc i) m))
+    ≡ (f || exceeds (drop i l) (drop i m))
+unfolding exceeds
+exceeds-step f [] m i h k = absurd (omega arith)
+exceeds-step f (x ∷ l) [] i h k = absurd (omega arith)
+exceeds-step f (x ∷ l) (y ∷ m) zero h k = or-assoc f (ltb y x) (exceeds l m)
+exceeds-step f (x ∷ l) (y ∷ m) (suc i) h k = exceeds-step f l m i (le-of-suc-le-suc h) (le-of-suc-le-suc k)
+
+pub none-left : (f : Bool) (l m : List ℕ) (i : ℕ) → length m ≤ i → f ≡ (f || exceeds (drop i l) (drop i m))
+unfolding exceeds
+none-left true l m i h = refl
+none-left false [] m zero h = refl
+none-left false [] m (suc i) h = refl
+none-left false (x ∷ l) [] zero h = refl
+none-left false (x ∷ l) (y ∷ m) zero h = absurd (omega arith)
+none-left false (x ∷ l) [] (suc i) h = nothing (drop i l)
+  where
+    nothing : (t : List ℕ) → false ≡ exceeds t []
+    nothing [] = refl
+    nothing (y ∷ t) = refl
+none-left false (x ∷ l) (y ∷ m) (suc i) h = none-left false l m i (le-of-suc-le-suc h)
+
+-- Numbers of two bytes
+
+twos-append : (l m : List ℕ) → twos (l ++ m) ≡ twos l ++ twos m
+twos-append [] m = refl
+twos-append (x ∷ l) m = ap (λ (t : List ℕ). x / 256 ∷ x % 256 ∷ t) (twos-append l m)
+
+pub twos-step : (d l : List ℕ) (i h v : ℕ) → 2 * i + 1 < length d → i < length l → h ≡ getD l i 0 / 256
+    → v ≡ getD l i 0 % 256 → take (2 * i) d ≡ twos (take i l)
+    → take (2 * (i + 1)) (set (set d (2 * i) h) (2 * i + 1) v) ≡ twos (take (i + 1) l)
+twos-step d l i h v a b e f t =
+    let k = 2 * i in
+    let next : 2 * (i + 1) ≡ suc (suc k) = omega arith in
+    let first : take (suc k) (set d k h) ≡ twos (take i l) ++ (h ∷ []) = append-step d _ k h (omega arith) t in
+    rw (next, add-one k, add-one i)
+    (append-step (set d k h) _ (suc k) v (simp length-set (omega arith)) first
+    ∙ (append-assoc (twos (take i l)) (h ∷ []) (v ∷ [])
+    ∙ (ap₂ (λ (x y : ℕ). twos (take i l) ++ (x ∷ y ∷ [])) e f
+    ∙ (sym (twos-append (take i l) (getD l i 0 ∷ [])) ∙ ap twos (sym (take-more l i b))))))
+
+next-pair : (i k : ℕ) (l : List ℕ) → k ≡ 2 * i → suc k < length l
+    → pairs (take (suc (suc k)) l) ≡ pairs (take k l) ++ ((256 * getD l k 0 + getD l (suc k) 0) ∷ [])
+next-pair i k [] e h = absurd (omega arith)
+next-pair i k (a ∷ []) e h = absurd (omega arith)
+next-pair zero zero (a ∷ b ∷ r) e h = refl
+next-pair zero (suc k) (a ∷ b ∷ r) e h = absurd (omega arith)
+next-pair (suc i) zero (a ∷ b ∷ r) e h = absurd (omega arith)
+next-pair (suc i) (suc zero) (a ∷ b ∷ r) e h = absurd (omega arith)
+next-pair (suc i) (suc (suc k)) (a ∷ b ∷ r) e h =
+    ap (λ (t : List ℕ). (256 * a + b) ∷ t) (next-pair i k r (omega arith) (omega arith))
+
+pub pairs-step : (d l : List ℕ) (i h v : ℕ) → i < length d → 2 * i + 1 < length l → h ≡ getD l (2 * i) 0
+    → v ≡ getD l (2 * i + 1) 0 → take i d ≡ pairs (take (2 * i) l)
+    → take (i + 1) (set d i (256 * h + v)) ≡ pairs (take (2 * (i + 1)) l)
+pairs-step d l i h v a b e f t =
+    let k = 2 * i in
+    let next : 2 * (i + 1) ≡ suc (suc k) = omega arith in
+    rw (next, add-one i)
+    (append-step d _ i (256 * h + v) a t
+    ∙ (ap₂ (λ (x y : ℕ). pairs (take k l) ++ ((256 * x + y) ∷ [])) e (f ∙ ap (λ (n : ℕ). getD l n 0) (add-one k))
+    ∙ sym (next-pair i k l refl (omega arith))))

@@ -1,0 +1,74 @@
+-- Laws on which the proofs of the calls stand.
+--   refused-*      each test for answer 11 in turn
+--   good-length    a record that is not refused has the right length
+--   gave-bad       what a call on a refused record gives
+--   gave-done      what a call on any other record gives
+--   reset-*        what reset gives
+-- Assumes nothing.
+use Prim.Native.Nat.{ℕ, _+_, _*_}
+use mathlib.Core.Bool.{Bool, true, false, true≢false}
+use mathlib.Core.List.{List}
+use mathlib.Core.Path.{_≡_, refl, sym, ap, _∙_}
+use lib.Dec.{eqb}
+use lib.ListN.{length, drop}
+use borrow.Author.Tests.{eq-eqb, ne-eqb, eqb-true, eqb-false}
+use Rattle.answer.specs.declared.Answer.the-variants.{Done}
+use Rattle.end.specs.declared.End.{End}
+use Rattle.end.specs.Good.{resetOf}
+use Rattle.record.specs.declared.Reply.{Reply}
+use Rattle.record.specs.Record.{size, version, at, exceeds, refusedBy, refused, recordOf, endOf}
+use Rattle.record.specs.Calls.{Result, badReply, stored, through, resetting}
+
+pub refused-length : (n v : ℕ) (m r : List ℕ) → ¬ (length r ≡ n) → true ≡ refusedBy n v m r
+unfolding refusedBy
+refused-length n v m r h = rw (ne-eqb (length r) n h)
+
+pub refused-head : (n v : ℕ) (m r : List ℕ) {a b : ℕ} → length r ≡ n → a ≡ at r 0 → b ≡ at r 1 → ¬ (256 * a + b ≡ n)
+    → true ≡ refusedBy n v m r
+unfolding refusedBy
+refused-head n v m r {a} {b} l p q h =
+    rw (eq-eqb (length r) n l, ne-eqb (256 * at r 0 + at r 1) n (λ e. h (rw (p, q) e)))
+
+pub refused-version : (n v : ℕ) (m r : List ℕ) {a b : ℕ} → length r ≡ n → a ≡ at r 0 → b ≡ at r 1 → 256 * a + b ≡ n
+    → ¬ (at r 2 ≡ v) → true ≡ refusedBy n v m r
+unfolding refusedBy
+refused-version n v m r {a} {b} l p q e h =
+    rw (eq-eqb (length r) n l, eq-eqb (256 * at r 0 + at r 1) n (rw (sym p, sym q) e), ne-eqb (at r 2) v h)
+
+pub refused-range : (n v : ℕ) (m r : List ℕ) {a b : ℕ} → length r ≡ n → a ≡ at r 0 → b ≡ at r 1 → 256 * a + b ≡ n
+    → at r 2 ≡ v → exceeds (drop 3 r) m ≡ refusedBy n v m r
+unfolding refusedBy
+refused-range n v m r {a} {b} l p q e h =
+    rw (eq-eqb (length r) n l, eq-eqb (256 * at r 0 + at r 1) n (rw (sym p, sym q) e), eq-eqb (at r 2) v h)
+
+pub good-length : (r : List ℕ) {t : Bool} → t ≡ refused r → t ≡ false → length r ≡ size
+good-length r {t} h f = by-test (eqb (length r) size) refl
+  where
+    by-test : (b : Bool) → eqb (length r) size ≡ b → length r ≡ size
+    by-test true e = eqb-true (length r) size e
+    by-test false e = absurd (true≢false (refused-length size version _ r (eqb-false (length r) size e) ∙ (sym h ∙ f)))
+
+pub gave-bad : (f : End → Result) (r : List ℕ) {t : Bool} {p : Reply} → t ≡ refused r → t ≡ true → p ≡ badReply
+    → (p ≡ through f r .reply) × (r ≡ through f r .bytes)
+unfolding through
+gave-bad f r {t} {p} h b e =
+    let refused-r : refused r ≡ true = sym h ∙ b in
+    (e ∙ rw refused-r, rw refused-r)
+
+pub gave-done : (f : End → Result) (r : List ℕ) (x : Result) {t : Bool} {p : Reply} {b : List ℕ} → t ≡ refused r
+    → t ≡ false → x ≡ f (endOf r) → p ≡ stored x .reply → b ≡ stored x .bytes
+    → (p ≡ through f r .reply) × (b ≡ through f r .bytes)
+unfolding through
+gave-done f r x {t} {p} {b} h g e q s =
+    let good-r : refused r ≡ false = sym h ∙ g in
+    (q ∙ (ap (λ (y : Result). stored y .reply) e ∙ rw good-r), s ∙ (ap (λ (y : Result). stored y .bytes) e ∙ rw good-r))
+
+pub reset-bad : (r : List ℕ) {p : Reply} → ¬ (length r ≡ size) → p ≡ badReply
+    → (p ≡ resetting r .reply) × (r ≡ resetting r .bytes)
+unfolding resetting
+reset-bad r h e = (e ∙ rw (ne-eqb (length r) size h), rw (ne-eqb (length r) size h))
+
+pub reset-done : (r : List ℕ) {b : List ℕ} → length r ≡ size → b ≡ recordOf resetOf
+    → (record { answer = Done; value = 0 } ≡ resetting r .reply) × (b ≡ resetting r .bytes)
+unfolding resetting
+reset-done r h e = (rw (eq-eqb (length r) size h), e ∙ rw (eq-eqb (length r) size h))

@@ -1,0 +1,56 @@
+-- `writing::put_end` meets its contract: the parts, one behind the other, are the whole record.
+-- Assumes nothing.
+use Rattle.record.specs.Record.{size, version, headOf, bodyOf, recordOf}
+use Rattle.record.specs.Record.{senderBytes, outboxBytes, collectorBytes, heardBytes, inboxBytes}
+use Rattle.record.proofs.Parts.{built}
+use borrow.Author.Needs.{needs}
+use Rattle.record.proofs.writing.put_end.Statement.{statement}
+use Rattle.record.proofs.writing.put_end.Tie as tie
+
+put-head-requires : tie.Need-put-head-requires
+put-head-requires c κs = search needs
+
+put-sender-requires : tie.Need-put-sender-requires
+put-sender-requires c κs = search needs
+
+put-outbox-requires : tie.Need-put-outbox-requires
+put-outbox-requires c κs = search needs
+
+put-collector-requires : tie.Need-put-collector-requires
+put-collector-requires c κs = search needs
+
+put-heard-requires : tie.Need-put-heard-requires
+put-heard-requires c κs = search needs
+
+put-inbox-requires : tie.Need-put-inbox-requires
+put-inbox-requires c κs = search needs
+
+same-length : tie.Need-same-length
+same-length c = search needs
+
+returns : tie.Need-returns
+unfolding recordOf bodyOf
+returns c =
+    let i = c .before .before in
+    let h = i .before .before .before .before in
+    let k = h .before .before .before .before in
+    let o = k .before .before .before .before in
+    let s = o .before .before .before .before in
+    let d = s .before .before .before .before in
+    let e = d .before .before .before .before .before .before .before .before .args .end in
+    built (headOf size version) (senderBytes (e .sender)) (outboxBytes (e .outbox)) (collectorBytes (e .collector))
+    (heardBytes (e .heard)) (inboxBytes (e .inbox)) (d .put-head .ensures) (s .put-sender .ensures)
+    (o .put-outbox .ensures) (k .put-collector .ensures) (h .put-heard .ensures) (i .put-inbox .ensures)
+
+pub put-end-spec : {M : Type 1} → statement M
+put-end-spec =
+    tie.close
+    (tie.spec
+    put-head-requires
+    put-sender-requires
+    put-outbox-requires
+    put-collector-requires
+    put-heard-requires
+    put-inbox-requires
+    same-length
+    returns)

@@ -1,0 +1,70 @@
+-- The calls on a record: each is the call on the record's end.
+--   Result            what a call on an end gives, in one shape for all: the answer; the symbol of a send, the value of
+--                     a read, 1 for present, else 0; and the next end
+--   sending, taking, reading, writing, settingHealth, presence   the calls of document 01 in that shape
+--   Called            what a call on a record gives: the reply, and every byte of the record after it
+--   through f r       the call f on the record r: answer 11 and the bytes as they were, or the call on its end
+--   resetting r       reset, which asks only for an area of the right size
+-- Assumes nothing.
+use Prim.Native.Nat.{ℕ}
+use mathlib.Core.Bool.{cond}
+use mathlib.Core.List.{List}
+use lib.Dec.{eqb}
+use lib.ListN.{length}
+use Rattle.answer.specs.declared.Answer.{Answer}
+use Rattle.answer.specs.declared.Answer.the-variants.{Done, BadRecord}
+use Rattle.end.specs.declared.End.{End}
+use Rattle.end.specs.declared.Next.{Next}
+use Rattle.end.specs.Good.{resetOf, presentOf}
+use Rattle.end.specs.Sending.{sendOf}
+use Rattle.end.specs.Taking.{takeOf}
+use Rattle.end.specs.Registers.{readOf, writeOf, healthOf}
+use Rattle.record.specs.declared.Reply.{Reply}
+use Rattle.record.specs.Record.{size, flag, recordOf, endOf, refused}
+
+pub record Result : Type 0 where
+  pub answer : Answer
+  pub value : ℕ
+  pub end : End
+
+-- where there is no value
+abbrev pub moved : Next → Result
+moved n = record { answer = n .answer; value = 0; end = n .end }
+
+abbrev pub sending : End → Result
+sending e = record { answer = sendOf e .answer; value = sendOf e .symbol; end = sendOf e .end }
+
+abbrev pub taking : ℕ → End → Result
+taking s e = moved (takeOf e s)
+
+abbrev pub reading : ℕ → End → Result
+reading r e = record { answer = readOf e r .answer; value = readOf e r .value; end = readOf e r .end }
+
+abbrev pub writing : ℕ → ℕ → End → Result
+writing r v e = moved (writeOf e r v)
+
+abbrev pub settingHealth : ℕ → End → Result
+settingHealth h e = moved (healthOf e h)
+
+abbrev pub presence : End → Result
+presence e = record { answer = Done; value = flag (presentOf e); end = e }
+
+pub record Called : Type 0 where
+  pub reply : Reply
+  pub bytes : List ℕ
+
+abbrev pub badReply : Reply
+badReply = record { answer = BadRecord; value = 0 }
+
+abbrev pub badRecord : List ℕ → Called
+badRecord r = record { reply = badReply; bytes = r }
+
+abbrev pub stored : Result → Called
+stored x = record { reply = record { answer = x .answer; value = x .value }; bytes = recordOf (x .end) }
+
+unfoldable pub through : (End → Result) → List ℕ → Called
+through f r = cond (refused r) (badRecord r) (stored (f (endOf r)))
+
+unfoldable pub resetting : List ℕ → Called
+resetting r =
+    cond (eqb (length r) size) (stored (record { answer = Done; value = 0; end = resetOf })) (badRecord r)

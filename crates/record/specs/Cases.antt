@@ -1,0 +1,66 @@
+-- Two records spelled out, byte by byte as docs/RECORD.md lays them.
+--   fresh       the record of an end just reset
+--   worked b    an end with another value in every number, and its bools as b says, counted from 0 in the record's order
+--   laid b      its record
+-- Assumes nothing.
+use Prim.Native.Nat.{ℕ}
+use mathlib.Core.Bool.{Bool}
+use mathlib.Core.List.{List, [], _∷_, _++_}
+use lib.ListN.{replicate}
+use Rattle.end.specs.declared.End.{End}
+use Rattle.record.specs.Record.{flag}
+
+abbrev pub fresh : List ℕ
+fresh = 0 ∷ 92 ∷ 1 ∷ (replicate 26 0 ++ (1 ∷ replicate 62 0))
+
+abbrev pub worked : (ℕ → Bool) → End
+worked b = record {
+  sender = record {
+    symbols = 1 ∷ 258 ∷ 3 ∷ 260 ∷ 5 ∷ 262 ∷ 7 ∷ 264 ∷ 9 ∷ 266 ∷ 11 ∷ 268 ∷ [];
+    position = 7;
+    toggle = b 0;
+    ready = b 1;
+    health = 1;
+    loaded = 2;
+  };
+  outbox = record {
+    pending = b 2;
+    toggle = b 3;
+    received = b 4;
+    confirmed = b 5;
+    number = 13;
+    ping = b 6;
+    bytes = 11 ∷ 22 ∷ 33 ∷ 44 ∷ 55 ∷ 66 ∷ 77 ∷ 88 ∷ [];
+  };
+  collector = record {
+    symbols = 497 ∷ 242 ∷ 499 ∷ 244 ∷ 501 ∷ 246 ∷ 503 ∷ 248 ∷ 505 ∷ 250 ∷ 507 ∷ 252 ∷ [];
+    count = 9;
+  };
+  heard = record {
+    present = b 7;
+    health = 3;
+    got = b 8;
+    ping = b 9;
+    valid = b 10;
+    toggle = b 11;
+    ack = b 12;
+    togack = b 13;
+  };
+  inbox = record {
+    expected = b 14;
+    acknowledge = b 15;
+    full = b 16;
+    toggle = b 17;
+    number = 14;
+    bytes = 201 ∷ 202 ∷ 203 ∷ 204 ∷ 205 ∷ 206 ∷ 207 ∷ 208 ∷ [];
+  };
+}
+
+abbrev pub laid : (ℕ → Bool) → List ℕ
+laid b =
+    0 ∷ 92 ∷ 1 ∷ 0 ∷ 1 ∷ 1 ∷ 2 ∷ 0 ∷ 3 ∷ 1 ∷ 4 ∷ 0 ∷ 5 ∷ 1 ∷ 6 ∷ 0 ∷ 7 ∷ 1 ∷ 8 ∷ 0 ∷ 9 ∷ 1 ∷ 10 ∷ 0 ∷ 11 ∷ 1 ∷
+    12 ∷ 7 ∷ flag (b 0) ∷ flag (b 1) ∷ 1 ∷ 2 ∷ flag (b 2) ∷ flag (b 3) ∷ flag (b 4) ∷ flag (b 5) ∷ 13 ∷
+    flag (b 6) ∷ 11 ∷ 22 ∷ 33 ∷ 44 ∷ 55 ∷ 66 ∷ 77 ∷ 88 ∷ 1 ∷ 241 ∷ 0 ∷ 242 ∷ 1 ∷ 243 ∷ 0 ∷ 244 ∷ 1 ∷ 245 ∷ 0 ∷
+    246 ∷ 1 ∷ 247 ∷ 0 ∷ 248 ∷ 1 ∷ 249 ∷ 0 ∷ 250 ∷ 1 ∷ 251 ∷ 0 ∷ 252 ∷ 9 ∷ flag (b 7) ∷ 3 ∷ flag (b 8) ∷
+    flag (b 9) ∷ flag (b 10) ∷ flag (b 11) ∷ flag (b 12) ∷ flag (b 13) ∷ flag (b 14) ∷ flag (b 15) ∷
+    flag (b 16) ∷ flag (b 17) ∷ 14 ∷ 201 ∷ 202 ∷ 203 ∷ 204 ∷ 205 ∷ 206 ∷ 207 ∷ 208 ∷ []

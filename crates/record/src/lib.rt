@@ -1,0 +1,159 @@
+// Request #104: an end that the C side keeps, as a record in bytes that it lends to each call. A call looks the record
+// over, reads its end, makes the call of crate `end` and writes the next end back. docs/RECORD.md has the offsets.
+mod reading;
+mod refusing;
+mod writing;
+
+use answer::Answer;
+use end::End;
+use end::Next;
+use reading::end_of;
+use refusing::refused;
+use writing::put_end;
+ghost use mathlib.Core.Path.{_≡_};
+ghost use lib.ListN.{length};
+ghost use Rattle.record.specs.Record.{size};
+ghost use Rattle.record.specs.Calls.{through, resetting, badReply, moved, stored};
+ghost use Rattle.record.specs.Calls.{sending, taking, reading, writing, settingHealth, presence};
+
+// How long a record is, and its version.
+pub const SIZE: usize = 92;
+
+pub const VERSION: u8 = 1;
+
+// What a call gives: its answer, and the symbol of a send, the value of a read, 1 for present; else 0.
+pub struct Reply {
+    pub answer: Answer,
+    pub value: u16,
+}
+
+// Fills an area of the right size with the record of an end just reset. What was there does not matter.
+pub fn reset(area: &mut [u8]) -> Reply
+    ensures { λ r. ⌜ r ≡ resetting (now (area .entry)) .reply ⌝ }
+    ensures { λ _. ⌜ now (area .exit) ≡ resetting (now (area .entry)) .bytes ⌝ }
+{
+    if area.len() != SIZE {
+        return bad_record();
+    }
+    let fresh = End::reset();
+    put_end(area, fresh);
+    Reply {
+        answer: Answer::Done,
+        value: 0,
+    }
+}
+
+// The symbol of this slot.
+pub fn send(area: &mut [u8]) -> Reply
+    ensures { λ r. ⌜ r ≡ through sending (now (area .entry)) .reply ⌝ }
+    ensures { λ _. ⌜ now (area .exit) ≡ through sending (now (area .entry)) .bytes ⌝ }
+{
+    if refused(area) {
+        return bad_record();
+    }
+    let end = end_of(area);
+    let sent = end.send();
+    let answer = sent.answer;
+    let next = sent.end;
+    put_end(area, next);
+    Reply {
+        answer,
+        value: sent.symbol,
+    }
+}
+
+// A symbol that arrived.
+pub fn take(area: &mut [u8], symbol: u16) -> Reply
+    ensures { λ r. ⌜ r ≡ through (taking symbol) (now (area .entry)) .reply ⌝ }
+    ensures { λ _. ⌜ now (area .exit) ≡ through (taking symbol) (now (area .entry)) .bytes ⌝ }
+{
+    if refused(area) {
+        return bad_record();
+    }
+    let end = end_of(area);
+    let next = end.take(symbol);
+    put_next(area, next)
+}
+
+// A register's value.
+pub fn read(area: &mut [u8], register: u16) -> Reply
+    ensures { λ r. ⌜ r ≡ through (reading register) (now (area .entry)) .reply ⌝ }
+    ensures { λ _. ⌜ now (area .exit) ≡ through (reading register) (now (area .entry)) .bytes ⌝ }
+{
+    if refused(area) {
+        return bad_record();
+    }
+    let end = end_of(area);
+    let got = end.read(register);
+    let answer = got.answer;
+    let next = got.end;
+    put_end(area, next);
+    Reply {
+        answer,
+        value: got.value,
+    }
+}
+
+// A value for a register.
+pub fn write(area: &mut [u8], register: u16, value: u16) -> Reply
+    ensures { λ r. ⌜ r ≡ through (writing register value) (now (area .entry)) .reply ⌝ }
+    ensures { λ _. ⌜ now (area .exit) ≡ through (writing register value) (now (area .entry)) .bytes ⌝ }
+{
+    if refused(area) {
+        return bad_record();
+    }
+    let end = end_of(area);
+    let next = end.write(register, value);
+    put_next(area, next)
+}
+
+// The health to send, from the next frame start on.
+pub fn set_health(area: &mut [u8], health: u16) -> Reply
+    ensures { λ r. ⌜ r ≡ through (settingHealth health) (now (area .entry)) .reply ⌝ }
+    ensures { λ _. ⌜ now (area .exit) ≡ through (settingHealth health) (now (area .entry)) .bytes ⌝ }
+{
+    if refused(area) {
+        return bad_record();
+    }
+    let end = end_of(area);
+    let next = end.set_health(health);
+    put_next(area, next)
+}
+
+// Whether the partner is present. The record is only read.
+pub fn present(area: &[u8]) -> Reply
+    ensures { λ r. ⌜ r ≡ through presence (now (area .entry)) .reply ⌝ }
+{
+    if refused(area) {
+        return bad_record();
+    }
+    let end = end_of(area);
+    let there = end.present();
+    Reply {
+        answer: Answer::Done,
+        value: there as u16,
+    }
+}
+
+// Answer 11.
+fn bad_record() -> Reply
+    ensures { λ r. ⌜ r ≡ badReply ⌝ }
+{
+    Reply {
+        answer: Answer::BadRecord,
+        value: 0,
+    }
+}
+
+// What take, write and set health give. The end is written back whatever the answer is: a refused call gives the end
+// that was read, and writing that one leaves every byte as it was.
+fn put_next(area: &mut [u8], next: Next) -> Reply
+    requires { ⌜ length (now area) ≡ size ⌝ }
+    ensures { λ r. ⌜ r ≡ stored (moved next) .reply ⌝ }
+    ensures { λ _. ⌜ now (area .exit) ≡ stored (moved next) .bytes ⌝ }
+{
+    let answer = next.answer;
+    let end = next.end;
+    put_end(area, end);
+    Reply { answer, value: 0 }
+}

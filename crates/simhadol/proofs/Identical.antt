@@ -1,0 +1,35 @@
+-- Replies that satisfy one contract are identical, for each call that the C side makes. Assumes nothing.
+use mathlib.Core.Path.{_≡_, sym, _∙_}
+use Rattle.record.proofs.Identical.{Same}
+use Rattle.simhadol.proofs.simhadol_record_length.Reads as record-length
+use Rattle.simhadol.proofs.simhadol_reset.Reads as reset
+use Rattle.simhadol.proofs.simhadol_send.Reads as send
+use Rattle.simhadol.proofs.simhadol_take.Reads as take
+use Rattle.simhadol.proofs.simhadol_read.Reads as read
+use Rattle.simhadol.proofs.simhadol_write.Reads as write
+use Rattle.simhadol.proofs.simhadol_set_health.Reads as set-health
+use Rattle.simhadol.proofs.simhadol_present.Reads as present
+
+pub record-length-identical : Same record-length.Post
+record-length-identical κs a x y s t e f = e ∙ sym f
+
+pub reset-identical : Same reset.Post
+reset-identical κs a x y s t e f = e .0 ∙ sym (f .0)
+
+pub send-identical : Same send.Post
+send-identical κs a x y s t e f = e .0 ∙ sym (f .0)
+
+pub take-identical : Same take.Post
+take-identical κs a x y s t e f = e .0 ∙ sym (f .0)
+
+pub read-identical : Same read.Post
+read-identical κs a x y s t e f = e .0 ∙ sym (f .0)
+
+pub write-identical : Same write.Post
+write-identical κs a x y s t e f = e .0 ∙ sym (f .0)
+
+pub set-health-identical : Same set-health.Post
+set-health-identical κs a x y s t e f = e .0 ∙ sym (f .0)
+
+pub present-identical : Same present.Post
+present-identical κs a x y s t e f = e ∙ sym f

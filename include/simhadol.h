@@ -1,0 +1,153 @@
+/*
+ * simhadol.h: one end of the 1000BASE-T1 OAM channel, kept by the caller. Link with libsimhadol.a.
+ *
+ * RECORDS
+ *
+ * An end lives in a record: SIMHADOL_RECORD_LENGTH bytes of the caller's own memory. The library keeps nothing between
+ * calls and allocates nothing; all that it knows of an end is in its record. docs/RECORD.md describes every byte.
+ *
+ *     static uint8_t end[SIMHADOL_RECORD_LENGTH];
+ *
+ *     simhadol_reset(end, sizeof end);
+ *     for (;;) {
+ *         simhadol_reply slot = simhadol_send(end, sizeof end);
+ *         if (slot.answer != SIMHADOL_DONE)
+ *             stop("these bytes are no record any more");
+ *         put_on_line(slot.value);
+ *         simhadol_take(end, sizeof end, get_from_line());
+ *     }
+ *
+ * The archive is for x86-64, needs no other library and has no data of its own.
+ *
+ * A record may be copied, stored and restored by plain copying. It is a string of bytes with no padding, its numbers of
+ * two bytes have the high byte first, and it is the same on every machine. Each end has exactly one record. To restore
+ * an older record counts as a reset: every call still keeps its promise, but that messages come up in order, each once
+ * and none lost, holds only until then, as it does at any reset of one end alone.
+ *
+ * POINTERS
+ *
+ * `record` points to `length` bytes that may be read and, but for simhadol_present, written. It needs no alignment. It
+ * may be NULL if `length` is 0. No call reads or writes a byte outside of them. A record belongs to one call at a time
+ * and overlaps nothing else that is in use: calls on different records may run at the same time, in any threads or
+ * interrupts; whoever shares one record among them has to keep its calls apart, by a lock or otherwise.
+ *
+ * ANSWERS
+ *
+ * Every call answers by one table. With any answer but SIMHADOL_DONE the value is 0 and every byte of the record
+ * stays as it was. (Bytes that stay may still be written, with the value that they have; with SIMHADOL_BAD_RECORD and
+ * by simhadol_present no byte is.) Where two answers apply, the one that stands first in 11, 2, 3, 10, 4, 5, 6 is given.
+ * Arguments are numbers of sixteen bits: what C cuts off a wider one, no call can see.
+ *
+ * SIMHADOL_BAD_RECORD, from every call but simhadol_reset, says that these bytes are not the record of an end: `length`
+ * or the record's own length is not SIMHADOL_RECORD_LENGTH, the version is not known, or a byte is above its largest
+ * value. It comes before any other check. Any bytes at all may be given: those that are no record get this answer.
+ */
+#ifndef SIMHADOL_H
+#define SIMHADOL_H
+
+#include <stddef.h>
+#include <stdint.h>
+
+#ifdef __cplusplus
+extern "C" {
+#endif
+
+/* The length of a record in bytes, for arrays. It equals simhadol_record_length(). */
+#define SIMHADOL_RECORD_LENGTH 92
+
+/* What `answer` can be. */
+enum {
+    SIMHADOL_DONE = 0,
+    SIMHADOL_NO_SUCH_REGISTER = 2,   /* the register is not one of 3.2308 to 3.2317 */
+    SIMHADOL_READ_ONLY_REGISTER = 3, /* a write to 3.2313 to 3.2317 */
+    SIMHADOL_BLOCKED = 4,            /* a write while a message is pending: to 3.2308 with bit 15 set, or to
+                                        3.2309 to 3.2312 */
+    SIMHADOL_BAD_SYMBOL = 5,         /* a symbol above 1,023 */
+    SIMHADOL_BAD_HEALTH = 6,         /* a health above 3 */
+    SIMHADOL_READ_ONLY_BITS = 10,    /* a write to 3.2308 with one of bits 14:12, 7:3 or 1:0 set */
+    SIMHADOL_BAD_RECORD = 11         /* the bytes are not the record of an end */
+};
+
+/*
+ * The registers, by number:
+ *
+ *     2308         15 pending (write 1 to send), 14 register toggle, 13 Received, 12 received toggle, 11:8 message
+ *                  number, 3 PingRx as got, 2 PingTx, 1:0 health as loaded at the last frame start. Bits 14:12, 7:3
+ *                  and 1:0 are read-only.
+ *     2309 - 2312  the message to send, two bytes each: the even byte in 7:0, the odd one in 15:8
+ *     2313         15 full, 14 toggle, 11:8 message number, 1:0 the partner's health. Read-only, as are the next.
+ *     2314 - 2317  the message received, two bytes each, likewise
+ */
+enum {
+    SIMHADOL_TRANSMIT = 2308,       /* its bytes follow in 2309 to 2312 */
+    SIMHADOL_RECEIVE = 2313,        /* its bytes follow in 2314 to 2317 */
+    SIMHADOL_PENDING = 0x8000,      /* of 2308: a message is pending, or is to be sent */
+    SIMHADOL_RECEIVED = 0x2000,     /* of 2308: a message was acknowledged since the last read of 2308 */
+    SIMHADOL_PING_GOT = 0x0008,     /* of 2308: PingRx as got */
+    SIMHADOL_PING_TX = 0x0004,      /* of 2308: PingTx */
+    SIMHADOL_FULL = 0x8000,         /* of 2313: a message stands in the receive register */
+    SIMHADOL_MARK = 512             /* added to a symbol that could not be corrected */
+};
+#define SIMHADOL_NUMBER(value) ((value) >> 8 & 15) /* the message number in 2308 or 2313 */
+
+/* What a call gives, by value: its answer, and a value where the call has one, else 0. */
+typedef struct simhadol_reply {
+    uint16_t answer;
+    uint16_t value;
+} simhadol_reply;
+
+/* The length of a record in bytes, as the library was built with it. */
+size_t simhadol_record_length(void);
+
+/*
+ * Fills the area with the record of an end just reset, whatever it held before; it may be uninitialised.
+ * Answers DONE, or BAD_RECORD if `length` is not SIMHADOL_RECORD_LENGTH; no byte is then written.
+ */
+simhadol_reply simhadol_reset(uint8_t *record, size_t length);
+
+/*
+ * Sends one symbol. Call it once a slot, before simhadol_take.
+ * Answers DONE, with the symbol (0 to 511) as the value, or BAD_RECORD.
+ */
+simhadol_reply simhadol_send(uint8_t *record, size_t length);
+
+/*
+ * Takes one symbol from the line, 0 to 1,023. One whose data frame could not be corrected is marked: give the symbol
+ * plus SIMHADOL_MARK, or any number from 512 to 1,023.
+ * Answers DONE, BAD_SYMBOL or BAD_RECORD.
+ */
+simhadol_reply simhadol_take(uint8_t *record, size_t length, uint16_t symbol);
+
+/*
+ * Reads register 3.`number`, 2308 to 2317. Reading 2308 clears Received after giving it; reading 2317 empties the
+ * receive register, and its bytes stay readable. To take a message, read 2313 and, only if bit 15 is set, then 2314,
+ * 2315, 2316 and 2317, in this order.
+ * Answers DONE, with the register as the value, NO_SUCH_REGISTER or BAD_RECORD.
+ */
+simhadol_reply simhadol_read(uint8_t *record, size_t length, uint16_t number);
+
+/*
+ * Writes register 3.`number`. To send a message, write its eight bytes to 2309 to 2312, the even byte in bits 7:0, then
+ * bit 15 with the message number in bits 11:8 to 2308.
+ * Answers DONE, NO_SUCH_REGISTER, READ_ONLY_REGISTER, READ_ONLY_BITS, BLOCKED or BAD_RECORD.
+ */
+simhadol_reply simhadol_write(uint8_t *record, size_t length, uint16_t number, uint16_t value);
+
+/*
+ * Sets the health, 0 to 3, that is sent from the next frame on.
+ * Answers DONE, BAD_HEALTH or BAD_RECORD.
+ */
+simhadol_reply simhadol_set_health(uint8_t *record, size_t length, uint16_t health);
+
+/*
+ * Whether the partner is present: whether a frame was accepted since reset. It does not lapse, so it says nothing of
+ * the line as it is now. It writes no byte.
+ * Answers DONE, with 1 (present) or 0 (not) as the value, or BAD_RECORD.
+ */
+simhadol_reply simhadol_present(const uint8_t *record, size_t length);
+
+#ifdef __cplusplus
+}
+#endif
+
+#endif

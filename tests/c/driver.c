@@ -1,0 +1,339 @@
+/*
+ * driver HOW: makes calls on two areas, a and b, as standard input asks, and writes what each gives.
+ *
+ *   X area HEX            X is a or b: its area is laid anew, with these bytes
+ *   X area empty          no bytes, at a pointer that is not NULL
+ *   X area null           no bytes, at NULL, as both are at the start
+ *   X reset, X send, X take N, X read N, X write N V, X health N, X present
+ *                         prints the answer, the value and the area's bytes after the call, - where it has none
+ *   length                prints the macro SIMHADOL_RECORD_LENGTH and what simhadol_record_length gives
+ *
+ * Numbers are decimal, bytes hex. HOW an area is laid:
+ *
+ *   guards                with guard bytes on both sides, at an odd address
+ *   heap                  as a block of exactly its size, so that valgrind sees each byte beyond it
+ *   page-before           right behind a page that can't be read or written
+ *   page-after            right before such a page
+ *
+ * Guard bytes fill what is left beside the area, and are looked at after each call. A call that harms one is named on
+ * standard error, with status 1. Input that can't be read is named there too, with status 2.
+ */
+#define _DEFAULT_SOURCE /* mmap and its MAP_ANONYMOUS */
+#include "simhadol.h"
+#include <stdbool.h>
+#include <stdio.h>
+#include <stdlib.h>
+#include <string.h>
+#include <sys/mman.h>
+#include <unistd.h>
+
+#define LONGEST_AREA 1024
+#define LONGEST_LINE (2 * LONGEST_AREA + 64)
+#define MOST_WORDS 4
+/* odd, as malloc gives even addresses: a record needs no alignment */
+#define GUARDS 33
+
+enum how { WITH_GUARDS, ON_HEAP, PAGE_BEFORE, PAGE_AFTER };
+
+static const char *const hows[] = {"guards", "heap", "page-before", "page-after"};
+
+/* A block that holds the area; the rest of it is guard bytes. */
+struct area {
+    uint8_t *block;
+    size_t block_length;
+    uint8_t *bytes;
+    size_t length;
+};
+
+static enum how how;
+static unsigned long line_number;
+
+static void stop(int status, const char *why)
+{
+    fflush(stdout);
+    fprintf(stderr, "driver: line %lu: %s\n", line_number, why);
+    exit(status);
+}
+
+static void malformed(const char *why)
+{
+    stop(2, why);
+}
+
+/* No two neighbours are alike, so that moved bytes show too. */
+static uint8_t guard(size_t place)
+{
+    return (uint8_t)(place * 29 + 101);
+}
+
+static bool inside(const struct area *area, size_t place)
+{
+    size_t start = (size_t)(area->bytes - area->block);
+    return place >= start && place - start < area->length;
+}
+
+static void set_guards(struct area *area)
+{
+    for (size_t place = 0; place < area->block_length; place++)
+        if (!inside(area, place))
+            area->block[place] = guard(place);
+}
+
+static void check_guards(const struct area *area)
+{
+    for (size_t place = 0; place < area->block_length; place++)
+        if (!inside(area, place) && area->block[place] != guard(place))
+            stop(1, area->block + place < area->bytes ? "a byte before the area was written"
+                                                      : "a byte after the area was written");
+}
+
+static size_t page(void)
+{
+    return (size_t)sysconf(_SC_PAGESIZE);
+}
+
+static void lift(struct area *area)
+{
+    if (how == WITH_GUARDS || how == ON_HEAP)
+        free(area->block);
+    else if (area->block != NULL)
+        munmap(area->block - page(), area->block_length + 2 * page());
+    *area = (struct area){NULL, 0, NULL, 0};
+}
+
+static uint8_t *on_heap(size_t length)
+{
+    uint8_t *block = malloc(length);
+    if (block == NULL)
+        stop(2, "no memory, or no pointer for no bytes");
+    return block;
+}
+
+/* Pages that can be used between two that can't. */
+static uint8_t *between_pages(size_t length)
+{
+    uint8_t *start = mmap(NULL, length + 2 * page(), PROT_NONE, MAP_PRIVATE | MAP_ANONYMOUS, -1, 0);
+    if (start == MAP_FAILED || mprotect(start + page(), length, PROT_READ | PROT_WRITE) != 0)
+        stop(2, "no memory");
+    return start + page();
+}
+
+static void lay(struct area *area, const uint8_t *bytes, size_t length)
+{
+    lift(area);
+    size_t before = 0;
+    switch (how) {
+    case WITH_GUARDS:
+        before = GUARDS;
+        area->block_length = GUARDS + length + GUARDS;
+        area->block = on_heap(area->block_length);
+        break;
+    case ON_HEAP:
+        area->block_length = length;
+        area->block = on_heap(length);
+        break;
+    case PAGE_BEFORE:
+    case PAGE_AFTER:
+        area->block_length = (length / page() + 1) * page();
+        area->block = between_pages(area->block_length);
+        before = how == PAGE_AFTER ? area->block_length - length : 0;
+        break;
+    }
+    area->bytes = area->block + before;
+    area->length = length;
+    set_guards(area);
+    memcpy(area->bytes, bytes, length);
+}
+
+static int digit(char letter)
+{
+    static const char digits[] = "0123456789ABCDEF";
+    const char *found = strchr(digits, letter);
+    if (found == NULL)
+        malformed("the digits of a byte are 0 to 9 and A to F");
+    return (int)(found - digits);
+}
+
+static void lay_hex(struct area *area, const char *hex)
+{
+    uint8_t bytes[LONGEST_AREA];
+    size_t length = strlen(hex) / 2;
+    if (strlen(hex) % 2 != 0 || length > LONGEST_AREA)
+        malformed("bytes are pairs of digits, and at most 1024");
+    for (size_t i = 0; i < length; i++)
+        bytes[i] = (uint8_t)(digit(hex[2 * i]) << 4 | digit(hex[2 * i + 1]));
+    lay(area, bytes, length);
+}
+
+static void lay_as_told(struct area *area, const char *what)
+{
+    if (strcmp(what, "null") == 0)
+        lift(area);
+    else if (strcmp(what, "empty") == 0)
+        lay(area, (const uint8_t *)"", 0);
+    else
+        lay_hex(area, what);
+}
+
+static simhadol_reply call_reset(struct area *area, const uint16_t *numbers)
+{
+    (void)numbers;
+    return simhadol_reset(area->bytes, area->length);
+}
+
+static simhadol_reply call_send(struct area *area, const uint16_t *numbers)
+{
+    (void)numbers;
+    return simhadol_send(area->bytes, area->length);
+}
+
+static simhadol_reply call_take(struct area *area, const uint16_t *numbers)
+{
+    return simhadol_take(area->bytes, area->length, numbers[0]);
+}
+
+static simhadol_reply call_read(struct area *area, const uint16_t *numbers)
+{
+    return simhadol_read(area->bytes, area->length, numbers[0]);
+}
+
+static simhadol_reply call_write(struct area *area, const uint16_t *numbers)
+{
+    return simhadol_write(area->bytes, area->length, numbers[0], numbers[1]);
+}
+
+static simhadol_reply call_health(struct area *area, const uint16_t *numbers)
+{
+    return simhadol_set_health(area->bytes, area->length, numbers[0]);
+}
+
+static simhadol_reply call_present(struct area *area, const uint16_t *numbers)
+{
+    (void)numbers;
+    return simhadol_present(area->bytes, area->length);
+}
+
+static const struct call {
+    const char *name;
+    size_t numbers;
+    simhadol_reply (*make)(struct area *area, const uint16_t *numbers);
+} calls[] = {
+    {"reset", 0, call_reset}, {"send", 0, call_send},     {"take", 1, call_take},       {"read", 1, call_read},
+    {"write", 2, call_write}, {"health", 1, call_health}, {"present", 0, call_present},
+};
+
+static const struct call *named(const char *name)
+{
+    for (size_t i = 0; i < sizeof calls / sizeof *calls; i++)
+        if (strcmp(name, calls[i].name) == 0)
+            return &calls[i];
+    malformed("no such call");
+    return NULL;
+}
+
+static uint16_t number(const char *word)
+{
+    char *end;
+    unsigned long value = strtoul(word, &end, 10);
+    if (word[0] < '0' || word[0] > '9' || *end != '\0' || value > 65535)
+        malformed("a number is decimal, 0 to 65535");
+    return (uint16_t)value;
+}
+
+static void print(simhadol_reply reply, const struct area *area)
+{
+    static const char digits[] = "0123456789ABCDEF";
+    char hex[2 * LONGEST_AREA + 1] = "-";
+    for (size_t i = 0; i < area->length; i++) {
+        hex[2 * i] = digits[area->bytes[i] >> 4];
+        hex[2 * i + 1] = digits[area->bytes[i] & 15];
+    }
+    if (area->length > 0)
+        hex[2 * area->length] = '\0';
+    printf("%u %u %s\n", (unsigned)reply.answer, (unsigned)reply.value, hex);
+}
+
+static void make_call(struct area *area, size_t count, char **words)
+{
+    const struct call *call = named(words[0]);
+    uint16_t numbers[2] = {0, 0};
+    if (count != 1 + call->numbers)
+        malformed("the call has too few or too many numbers");
+    for (size_t i = 0; i < call->numbers; i++)
+        numbers[i] = number(words[1 + i]);
+    /* what stops the next call by force leaves the lines before it to be read */
+    if (how != WITH_GUARDS)
+        fflush(stdout);
+    simhadol_reply reply = call->make(area, numbers);
+    check_guards(area);
+    print(reply, area);
+}
+
+static void obey(struct area areas[2], size_t count, char **words)
+{
+    if (count == 1 && strcmp(words[0], "length") == 0) {
+        printf("%d %zu\n", SIMHADOL_RECORD_LENGTH, simhadol_record_length());
+        return;
+    }
+    if (count < 2 || (strcmp(words[0], "a") != 0 && strcmp(words[0], "b") != 0))
+        malformed("a line is length, or begins with a or b and what is to be done");
+    struct area *area = &areas[words[0][0] == 'b'];
+    if (count == 3 && strcmp(words[1], "area") == 0)
+        lay_as_told(area, words[2]);
+    else
+        make_call(area, count - 1, words + 1);
+}
+
+/* Gives how many words there are, at most MOST_WORDS of them stored. */
+static size_t split(char *line, char *words[MOST_WORDS])
+{
+    size_t count = 0;
+    for (char *word = strtok(line, " "); word != NULL; word = strtok(NULL, " ")) {
+        if (count < MOST_WORDS)
+            words[count] = word;
+        count++;
+    }
+    return count;
+}
+
+/* Gives false at the end of the input. A last line without its newline was cut short. */
+static bool get_line(char line[LONGEST_LINE])
+{
+    if (fgets(line, LONGEST_LINE, stdin) == NULL)
+        return false;
+    line_number++;
+    size_t length = strlen(line);
+    if (length == 0 || line[length - 1] != '\n')
+        malformed("the line is too long, has a zero byte or does not end");
+    line[length - 1] = '\0';
+    return true;
+}
+
+static bool understood(int count, char **arguments)
+{
+    for (size_t i = 0; count == 2 && i < sizeof hows / sizeof *hows; i++)
+        if (strcmp(arguments[1], hows[i]) == 0) {
+            how = (enum how)i;
+            return true;
+        }
+    return false;
+}
+
+int main(int count, char **arguments)
+{
+    if (!understood(count, arguments)) {
+        fprintf(stderr, "driver guards | heap | page-before | page-after\n");
+        return 2;
+    }
+    struct area areas[2] = {{NULL, 0, NULL, 0}, {NULL, 0, NULL, 0}};
+    char line[LONGEST_LINE], *words[MOST_WORDS];
+    while (get_line(line)) {
+        size_t words_there = split(line, words);
+        obey(areas, words_there, words);
+    }
+    lift(&areas[0]);
+    lift(&areas[1]);
+    if (ferror(stdin) || fflush(stdout) != 0)
+        stop(2, "input or output failed");
+    return 0;
+}

@@ -1,0 +1,20 @@
+// header: the header is C++ too, included twice or not, and its calls are found when a C++ program is linked.
+#include "simhadol.h"
+#include "simhadol.h"
+
+int main()
+{
+    uint8_t record[SIMHADOL_RECORD_LENGTH];
+    simhadol_reply reply = simhadol_reset(record, simhadol_record_length());
+    bool good = reply.answer == SIMHADOL_DONE;
+    good = good && simhadol_send(record, sizeof record).answer == SIMHADOL_DONE;
+    good = good && simhadol_take(record, sizeof record, 1024).answer == SIMHADOL_BAD_SYMBOL;
+    good = good && simhadol_read(record, sizeof record, 2318).answer == SIMHADOL_NO_SUCH_REGISTER;
+    good = good && simhadol_write(record, sizeof record, 2313, 0).answer == SIMHADOL_READ_ONLY_REGISTER;
+    good = good && simhadol_write(record, sizeof record, 2308, 1).answer == SIMHADOL_READ_ONLY_BITS;
+    good = good && simhadol_write(record, sizeof record, 2308, 0x8000).answer == SIMHADOL_DONE;
+    good = good && simhadol_write(record, sizeof record, 2309, 0).answer == SIMHADOL_BLOCKED;
+    good = good && simhadol_set_health(record, sizeof record, 4).answer == SIMHADOL_BAD_HEALTH;
+    good = good && simhadol_present(record, sizeof record - 1).answer == SIMHADOL_BAD_RECORD;
+    return good ? 0 : 1;
+}

@@ -1,0 +1,130 @@
+//! Calls on two areas of bytes, for `tests/c/driver.c`, answered by the second implementation as they are written.
+
+use crate::answer::Answer;
+use crate::proved::feed;
+use crate::record::{Call, Reply};
+use crate::script::first_difference;
+use std::collections::BTreeMap;
+use std::fmt::Write;
+use std::process::Command;
+
+const SIDES: [&str; 2] = ["a", "b"];
+
+/// A script of about this many bytes goes to the driver at a go.
+const LONG: usize = 4_000_000;
+
+#[derive(Default)]
+pub struct Calls {
+    text: String,
+    expected: String,
+    areas: [Vec<u8>; 2],
+    /// How many calls there are, by name and answer number.
+    pub counts: BTreeMap<(&'static str, u8), usize>,
+}
+
+impl Calls {
+    /// The area of a side is laid anew, with these bytes.
+    pub fn lay(&mut self, side: usize, bytes: &[u8]) {
+        self.areas[side] = bytes.to_vec();
+        let bytes = if bytes.is_empty() { "empty".to_string() } else { hex(bytes) };
+        self.say(format!("{} area {}", SIDES[side], bytes));
+    }
+
+    /// No bytes, at NULL.
+    pub fn lay_null(&mut self, side: usize) {
+        self.areas[side].clear();
+        self.say(format!("{} area null", SIDES[side]));
+    }
+
+    pub fn area(&self, side: usize) -> &[u8] {
+        &self.areas[side]
+    }
+
+    /// A call, answered by the second implementation through its own records.
+    pub fn call(&mut self, side: usize, call: Call) -> Reply {
+        let mut after = self.areas[side].clone();
+        let reply = call.on_record(&mut after);
+        self.expect(side, call, reply, after);
+        reply
+    }
+
+    /// A call, with what it must give and leave. A refusal gives 0 and leaves the bytes, whoever worked it out.
+    pub fn expect(&mut self, side: usize, call: Call, reply: Reply, after: Vec<u8>) {
+        let (answer, value) = reply;
+        assert!(answer == Answer::Done || value == 0 && after == self.areas[side], "{} changes what it refuses", call);
+        self.say(format!("{} {}", SIDES[side], call));
+        let bytes = if after.is_empty() { "-".to_string() } else { hex(&after) };
+        writeln!(self.expected, "{} {} {}", answer.number(), value, bytes).expect("memory takes what is written");
+        self.areas[side] = after;
+        *self.counts.entry((call.name(), answer.number())).or_default() += 1;
+    }
+
+    pub fn count(&self) -> usize {
+        self.counts.values().sum()
+    }
+
+    fn say(&mut self, line: String) {
+        self.text += &line;
+        self.text.push('\n');
+    }
+
+    /// The driver must print the same, or the first difference is told.
+    pub fn compare(&self, mut driver: Command) -> Result<(), String> {
+        let child = driver.spawn().map_err(|why| format!("{:?} cannot be run: {}", driver, why))?;
+        let output = feed(child, self.text.as_bytes())?;
+        let ended = format!("the driver ended with {} {}", output.status, String::from_utf8_lossy(&output.stderr));
+        match first_difference(self.expected.as_bytes(), &output.stdout) {
+            None if output.status.success() => Ok(()),
+            None => Err(format!("all as expected, but {}", ended)),
+            Some(index) => Err(format!("{}\n  {}", self.explain(index, &output.stdout), ended)),
+        }
+    }
+
+    /// Compares what is there, if that is much or the last, and goes on with the areas as they are.
+    pub fn compare_when(&mut self, last: bool, driver: impl Fn() -> Command) -> Result<(), String> {
+        if last || self.text.len() > LONG {
+            self.compare(driver())?;
+            self.text.clear();
+            self.expected.clear();
+            for side in 0..2 {
+                let area = self.areas[side].clone();
+                self.lay(side, &area);
+            }
+        }
+        Ok(())
+    }
+
+    /// Names the call that the printed line `index` answers, and the bytes that it was given.
+    fn explain(&self, index: usize, printed: &[u8]) -> String {
+        let mut areas = [""; 2];
+        let mut answers = self.expected.lines();
+        let mut said = 0;
+        let mut asked = "(nothing more was asked)".to_string();
+        for line in self.text.lines() {
+            let side = usize::from(line.starts_with('b'));
+            if let Some(bytes) = line[2..].strip_prefix("area ") {
+                areas[side] = bytes;
+                continue;
+            }
+            if said == index {
+                asked = format!("{}, on {}", line, areas[side]);
+                break;
+            }
+            areas[side] = answers.next().and_then(|answer| answer.rsplit(' ').next()).unwrap_or_default();
+            said += 1;
+        }
+        let printed = String::from_utf8_lossy(printed);
+        let line = |output: &str| output.lines().nth(index).unwrap_or("(nothing)").to_string();
+        format!("call {}: {}\n  second: {}\n  driver: {}", index + 1, asked, line(&self.expected), line(&printed))
+    }
+}
+
+fn hex(bytes: &[u8]) -> String {
+    let mut text = String::with_capacity(2 * bytes.len());
+    for byte in bytes {
+        for digit in [byte >> 4, byte & 15] {
+            text.push(char::from(b"0123456789ABCDEF"[usize::from(digit)]));
+        }
+    }
+    text
+}

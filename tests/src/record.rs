@@ -1,0 +1,129 @@
+//! An end as a record of bytes, and the seven calls on one: document 02, #104.
+//!
+//! Two bytes of length, big-endian, counting the whole record; one version byte; then the end, field by field in the
+//! order of `fields`. A symbol has two bytes, the high one first; everything else has one.
+
+use crate::answer::Answer;
+use crate::end::End;
+use crate::fields::{fields, Field};
+use std::fmt;
+
+pub const LENGTH: usize = 92;
+pub const VERSION: u8 = 1;
+
+/// The seven calls. Written out, one is the driver's command for it.
+#[derive(Clone, Copy, Debug, PartialEq, Eq)]
+pub enum Call {
+    Reset,
+    Send,
+    Take(u16),
+    Read(u16),
+    Write(u16, u16),
+    SetHealth(u16),
+    Present,
+}
+
+/// Answer and value, 0 where the call has none.
+pub type Reply = (Answer, u16);
+
+impl Call {
+    pub fn name(&self) -> &'static str {
+        match self {
+            Call::Reset => "reset",
+            Call::Send => "send",
+            Call::Take(_) => "take",
+            Call::Read(_) => "read",
+            Call::Write(..) => "write",
+            Call::SetHealth(_) => "health",
+            Call::Present => "present",
+        }
+    }
+
+    /// The call on an end, as document 01 has it.
+    pub fn on_end(self, end: &mut End) -> Reply {
+        match self {
+            Call::Reset => {
+                *end = End::reset();
+                (Answer::Done, 0)
+            }
+            Call::Send => end.send(),
+            Call::Take(symbol) => (end.take(symbol), 0),
+            Call::Read(register) => end.read(register),
+            Call::Write(register, value) => (end.write(register, value), 0),
+            Call::SetHealth(health) => (end.set_health(health), 0),
+            Call::Present => (Answer::Done, u16::from(end.is_present())),
+        }
+    }
+
+    /// The call on a record. Reset asks only for an area of the right size; a refusal leaves all bytes.
+    pub fn on_record(self, record: &mut [u8]) -> Reply {
+        let end = match self {
+            Call::Reset if record.len() == LENGTH => Some(End::reset()),
+            _ => end_of(record),
+        };
+        let mut end = match end {
+            Some(end) => end,
+            None => return (Answer::BadRecord, 0),
+        };
+        let reply = self.on_end(&mut end);
+        if reply.0 == Answer::Done {
+            record.copy_from_slice(&record_of(&end));
+        }
+        reply
+    }
+}
+
+impl fmt::Display for Call {
+    fn fmt(&self, out: &mut fmt::Formatter) -> fmt::Result {
+        let name = self.name();
+        match self {
+            Call::Reset | Call::Send | Call::Present => write!(out, "{}", name),
+            Call::Take(number) | Call::Read(number) | Call::SetHealth(number) => write!(out, "{} {}", name, number),
+            Call::Write(register, value) => write!(out, "{} {} {}", name, register, value),
+        }
+    }
+}
+
+fn head() -> [u8; 3] {
+    let [high, low] = (LENGTH as u16).to_be_bytes();
+    [high, low, VERSION]
+}
+
+pub fn record_of(end: &End) -> Vec<u8> {
+    let mut record = head().to_vec();
+    for (_, field) in fields(&mut end.clone()) {
+        for value in field.values() {
+            record.extend_from_slice(&value.to_be_bytes()[2 - width(&field)..]);
+        }
+    }
+    record
+}
+
+/// None where answer 11 is given.
+pub fn end_of(record: &[u8]) -> Option<End> {
+    let mut rest = record.strip_prefix(&head())?;
+    if record.len() != LENGTH {
+        return None;
+    }
+    let mut end = End::default();
+    for (_, mut field) in fields(&mut end) {
+        for index in 0..field.elements().unwrap_or(1) {
+            let (bytes, behind) = rest.split_at(width(&field));
+            rest = behind;
+            let value = bytes.iter().fold(0, |value, byte| value << 8 | u16::from(*byte));
+            if value > field.largest() {
+                return None;
+            }
+            field.store(index, value);
+        }
+    }
+    // What answer 1 would meet is a value out of range.
+    end.is_good().then(|| end)
+}
+
+fn width(field: &Field) -> usize {
+    match field {
+        Field::Symbols(_) => 2,
+        Field::Bool(_) | Field::Byte(_) | Field::Bytes(_) => 1,
+    }
+}

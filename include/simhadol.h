@@ -33,10 +33,10 @@
  *
  * ANSWERS
  *
- * Every call answers by one table. With any answer but SIMHADOL_DONE the value is 0 and every byte of the record
- * stays as it was. (Bytes that stay may still be written, with the value that they have; with SIMHADOL_BAD_RECORD and
- * by simhadol_present no byte is.) Where two answers apply, the one that stands first in 11, 2, 3, 10, 4, 5, 6 is given.
- * Arguments are numbers of sixteen bits: what C cuts off a wider one, no call can see.
+ * Every call answers by one table. With any answer but SIMHADOL_DONE all else that is given is 0 and every byte of the
+ * record stays as it was. (Bytes that stay may still be written, with the value that they have; by simhadol_present and
+ * with SIMHADOL_BAD_RECORD no byte is.) Where two answers apply, the one that stands first in 11, 2, 3, 10, 4, 5, 6 is
+ * given. Arguments are numbers of sixteen bits: what C cuts off a wider one, no call can see.
  *
  * SIMHADOL_BAD_RECORD, from every call but simhadol_reset, says that these bytes are not the record of an end: `length`
  * or the record's own length is not SIMHADOL_RECORD_LENGTH, the version is not known, or a byte is above its largest
@@ -96,6 +96,26 @@ typedef struct simhadol_reply {
     uint16_t value;
 } simhadol_reply;
 
+/*
+ * What `reason` can be: what a symbol made of the collection, which is the frame's symbols taken so far. With its twelfth
+ * symbol a collection is accepted or not. A marked symbol breaks it, and so does an even one, which only a frame's first
+ * symbol may be. An empty collection can't be broken.
+ */
+enum {
+    SIMHADOL_REASON_NOTHING = 0,  /* the symbol was added or passed over, or the call was refused: no collection ended */
+    SIMHADOL_REASON_ACCEPTED = 1, /* the twelfth symbol: the frame is accepted */
+    SIMHADOL_REASON_CRC = 2,      /* the twelfth symbol: the CRC is wrong, and nothing of the frame is used */
+    SIMHADOL_REASON_MARKED = 3,   /* a marked symbol broke it; it is empty now */
+    SIMHADOL_REASON_EARLY = 4     /* an early even symbol broke it, and is the first of a new one */
+};
+
+/* What simhadol_take_reason gives, by value. */
+typedef struct simhadol_taken {
+    uint16_t answer;
+    uint16_t reason;
+    uint16_t symbols; /* with MARKED and EARLY how many symbols the broken collection had, 1 to 11, else 0 */
+} simhadol_taken;
+
 /* The length of a record in bytes, as the library was built with it. */
 size_t simhadol_record_length(void);
 
@@ -117,6 +137,16 @@ simhadol_reply simhadol_send(uint8_t *record, size_t length);
  * Answers DONE, BAD_SYMBOL or BAD_RECORD.
  */
 simhadol_reply simhadol_take(uint8_t *record, size_t length, uint16_t symbol);
+
+/*
+ * Takes one symbol as simhadol_take does, with the same answer and the same bytes after, and also gives the reason. Call
+ * it instead of simhadol_take, not beside it: each takes the symbol.
+ * Where a record was written by these calls alone since simhadol_reset, the reason of a failure is the frame's first
+ * fault: with MARKED its symbol `symbols`, counted from 0, is marked; with EARLY that symbol has the wrong parity; with
+ * CRC its twelve symbols are unmarked and of the right parity, and its CRC is wrong.
+ * Answers DONE, BAD_SYMBOL or BAD_RECORD.
+ */
+simhadol_taken simhadol_take_reason(uint8_t *record, size_t length, uint16_t symbol);
 
 /*
  * Reads register 3.`number`, 2308 to 2317. Reading 2308 clears Received after giving it; reading 2317 empties the

@@ -6,6 +6,7 @@
  *   X area null           no bytes, at NULL, as both are at the start
  *   X reset, X send, X take N, X read N, X write N V, X health N, X present
  *                         prints the answer, the value and the area's bytes after the call, - where it has none
+ *   X reason N            takes: prints the answer, the reason, the symbols of a broken collection and the bytes
  *   length                prints the macro SIMHADOL_RECORD_LENGTH and what simhadol_record_length gives
  *
  * Numbers are decimal, bytes hex. HOW an area is laid:
@@ -18,37 +19,21 @@
  * Guard bytes fill what is left beside the area, and are looked at after each call. A call that harms one is named on
  * standard error, with status 1. Input that can't be read is named there too, with status 2.
  */
-#define _DEFAULT_SOURCE /* mmap and its MAP_ANONYMOUS */
+#include "driver.h"
 #include "simhadol.h"
 #include <stdbool.h>
 #include <stdio.h>
 #include <stdlib.h>
 #include <string.h>
-#include <sys/mman.h>
-#include <unistd.h>
 
 #define LONGEST_AREA 1024
 #define LONGEST_LINE (2 * LONGEST_AREA + 64)
 #define MOST_WORDS 4
-/* odd, as malloc gives even addresses: a record needs no alignment */
-#define GUARDS 33
-
-enum how { WITH_GUARDS, ON_HEAP, PAGE_BEFORE, PAGE_AFTER };
 
 static const char *const hows[] = {"guards", "heap", "page-before", "page-after"};
-
-/* A block that holds the area; the rest of it is guard bytes. */
-struct area {
-    uint8_t *block;
-    size_t block_length;
-    uint8_t *bytes;
-    size_t length;
-};
-
-static enum how how;
 static unsigned long line_number;
 
-static void stop(int status, const char *why)
+void stop(int status, const char *why)
 {
     fflush(stdout);
     fprintf(stderr, "driver: line %lu: %s\n", line_number, why);
@@ -58,91 +43,6 @@ static void stop(int status, const char *why)
 static void malformed(const char *why)
 {
     stop(2, why);
-}
-
-/* No two neighbours are alike, so that moved bytes show too. */
-static uint8_t guard(size_t place)
-{
-    return (uint8_t)(place * 29 + 101);
-}
-
-static bool inside(const struct area *area, size_t place)
-{
-    size_t start = (size_t)(area->bytes - area->block);
-    return place >= start && place - start < area->length;
-}
-
-static void set_guards(struct area *area)
-{
-    for (size_t place = 0; place < area->block_length; place++)
-        if (!inside(area, place))
-            area->block[place] = guard(place);
-}
-
-static void check_guards(const struct area *area)
-{
-    for (size_t place = 0; place < area->block_length; place++)
-        if (!inside(area, place) && area->block[place] != guard(place))
-            stop(1, area->block + place < area->bytes ? "a byte before the area was written"
-                                                      : "a byte after the area was written");
-}
-
-static size_t page(void)
-{
-    return (size_t)sysconf(_SC_PAGESIZE);
-}
-
-static void lift(struct area *area)
-{
-    if (how == WITH_GUARDS || how == ON_HEAP)
-        free(area->block);
-    else if (area->block != NULL)
-        munmap(area->block - page(), area->block_length + 2 * page());
-    *area = (struct area){NULL, 0, NULL, 0};
-}
-
-static uint8_t *on_heap(size_t length)
-{
-    uint8_t *block = malloc(length);
-    if (block == NULL)
-        stop(2, "no memory, or no pointer for no bytes");
-    return block;
-}
-
-/* Pages that can be used between two that can't. */
-static uint8_t *between_pages(size_t length)
-{
-    uint8_t *start = mmap(NULL, length + 2 * page(), PROT_NONE, MAP_PRIVATE | MAP_ANONYMOUS, -1, 0);
-    if (start == MAP_FAILED || mprotect(start + page(), length, PROT_READ | PROT_WRITE) != 0)
-        stop(2, "no memory");
-    return start + page();
-}
-
-static void lay(struct area *area, const uint8_t *bytes, size_t length)
-{
-    lift(area);
-    size_t before = 0;
-    switch (how) {
-    case WITH_GUARDS:
-        before = GUARDS;
-        area->block_length = GUARDS + length + GUARDS;
-        area->block = on_heap(area->block_length);
-        break;
-    case ON_HEAP:
-        area->block_length = length;
-        area->block = on_heap(length);
-        break;
-    case PAGE_BEFORE:
-    case PAGE_AFTER:
-        area->block_length = (length / page() + 1) * page();
-        area->block = between_pages(area->block_length);
-        before = how == PAGE_AFTER ? area->block_length - length : 0;
-        break;
-    }
-    area->bytes = area->block + before;
-    area->length = length;
-    set_guards(area);
-    memcpy(area->bytes, bytes, length);
 }
 
 static int digit(char letter)
@@ -175,51 +75,68 @@ static void lay_as_told(struct area *area, const char *what)
         lay_hex(area, what);
 }
 
-static simhadol_reply call_reset(struct area *area, const uint16_t *numbers)
+/* What a call gives, in its order. */
+struct given {
+    size_t count;
+    uint16_t numbers[3];
+};
+
+static struct given reply(simhadol_reply reply)
+{
+    return (struct given){2, {reply.answer, reply.value, 0}};
+}
+
+static struct given call_reset(struct area *area, const uint16_t *numbers)
 {
     (void)numbers;
-    return simhadol_reset(area->bytes, area->length);
+    return reply(simhadol_reset(area->bytes, area->length));
 }
 
-static simhadol_reply call_send(struct area *area, const uint16_t *numbers)
+static struct given call_send(struct area *area, const uint16_t *numbers)
 {
     (void)numbers;
-    return simhadol_send(area->bytes, area->length);
+    return reply(simhadol_send(area->bytes, area->length));
 }
 
-static simhadol_reply call_take(struct area *area, const uint16_t *numbers)
+static struct given call_take(struct area *area, const uint16_t *numbers)
 {
-    return simhadol_take(area->bytes, area->length, numbers[0]);
+    return reply(simhadol_take(area->bytes, area->length, numbers[0]));
 }
 
-static simhadol_reply call_read(struct area *area, const uint16_t *numbers)
+static struct given call_reason(struct area *area, const uint16_t *numbers)
 {
-    return simhadol_read(area->bytes, area->length, numbers[0]);
+    simhadol_taken taken = simhadol_take_reason(area->bytes, area->length, numbers[0]);
+    return (struct given){3, {taken.answer, taken.reason, taken.symbols}};
 }
 
-static simhadol_reply call_write(struct area *area, const uint16_t *numbers)
+static struct given call_read(struct area *area, const uint16_t *numbers)
 {
-    return simhadol_write(area->bytes, area->length, numbers[0], numbers[1]);
+    return reply(simhadol_read(area->bytes, area->length, numbers[0]));
 }
 
-static simhadol_reply call_health(struct area *area, const uint16_t *numbers)
+static struct given call_write(struct area *area, const uint16_t *numbers)
 {
-    return simhadol_set_health(area->bytes, area->length, numbers[0]);
+    return reply(simhadol_write(area->bytes, area->length, numbers[0], numbers[1]));
 }
 
-static simhadol_reply call_present(struct area *area, const uint16_t *numbers)
+static struct given call_health(struct area *area, const uint16_t *numbers)
+{
+    return reply(simhadol_set_health(area->bytes, area->length, numbers[0]));
+}
+
+static struct given call_present(struct area *area, const uint16_t *numbers)
 {
     (void)numbers;
-    return simhadol_present(area->bytes, area->length);
+    return reply(simhadol_present(area->bytes, area->length));
 }
 
 static const struct call {
     const char *name;
     size_t numbers;
-    simhadol_reply (*make)(struct area *area, const uint16_t *numbers);
+    struct given (*make)(struct area *area, const uint16_t *numbers);
 } calls[] = {
-    {"reset", 0, call_reset}, {"send", 0, call_send},     {"take", 1, call_take},       {"read", 1, call_read},
-    {"write", 2, call_write}, {"health", 1, call_health}, {"present", 0, call_present},
+    {"reset", 0, call_reset}, {"send", 0, call_send},   {"take", 1, call_take},     {"reason", 1, call_reason},
+    {"read", 1, call_read},   {"write", 2, call_write}, {"health", 1, call_health}, {"present", 0, call_present},
 };
 
 static const struct call *named(const char *name)
@@ -240,7 +157,7 @@ static uint16_t number(const char *word)
     return (uint16_t)value;
 }
 
-static void print(simhadol_reply reply, const struct area *area)
+static void print(struct given given, const struct area *area)
 {
     static const char digits[] = "0123456789ABCDEF";
     char hex[2 * LONGEST_AREA + 1] = "-";
@@ -250,7 +167,9 @@ static void print(simhadol_reply reply, const struct area *area)
     }
     if (area->length > 0)
         hex[2 * area->length] = '\0';
-    printf("%u %u %s\n", (unsigned)reply.answer, (unsigned)reply.value, hex);
+    for (size_t i = 0; i < given.count; i++)
+        printf("%u ", (unsigned)given.numbers[i]);
+    printf("%s\n", hex);
 }
 
 static void make_call(struct area *area, size_t count, char **words)
@@ -264,9 +183,9 @@ static void make_call(struct area *area, size_t count, char **words)
     /* what stops the next call by force leaves the lines before it to be read */
     if (how != WITH_GUARDS)
         fflush(stdout);
-    simhadol_reply reply = call->make(area, numbers);
+    struct given given = call->make(area, numbers);
     check_guards(area);
-    print(reply, area);
+    print(given, area);
 }
 
 static void obey(struct area areas[2], size_t count, char **words)

@@ -9,6 +9,10 @@ int main()
     bool good = reply.answer == SIMHADOL_DONE;
     good = good && simhadol_send(record, sizeof record).answer == SIMHADOL_DONE;
     good = good && simhadol_take(record, sizeof record, 1024).answer == SIMHADOL_BAD_SYMBOL;
+    simhadol_taken taken = simhadol_take_reason(record, sizeof record, 0);
+    good = good && taken.answer == SIMHADOL_DONE && taken.reason == SIMHADOL_REASON_NOTHING && taken.symbols == 0;
+    taken = simhadol_take_reason(record, sizeof record, SIMHADOL_MARK);
+    good = good && taken.answer == SIMHADOL_DONE && taken.reason == SIMHADOL_REASON_MARKED && taken.symbols == 1;
     good = good && simhadol_read(record, sizeof record, 2318).answer == SIMHADOL_NO_SUCH_REGISTER;
     good = good && simhadol_write(record, sizeof record, 2313, 0).answer == SIMHADOL_READ_ONLY_REGISTER;
     good = good && simhadol_write(record, sizeof record, 2308, 1).answer == SIMHADOL_READ_ONLY_BITS;

@@ -20,6 +20,8 @@ pub struct Calls {
     areas: [Vec<u8>; 2],
     /// How many calls there are, by name and answer number.
     pub counts: BTreeMap<(&'static str, u8), usize>,
+    /// How many calls told a reason, by its number and the symbols of the collection that was broken.
+    pub reasons: BTreeMap<(u16, u16), usize>,
 }
 
 impl Calls {
@@ -50,13 +52,21 @@ impl Calls {
 
     /// A call, with what it must give and leave. A refusal gives 0 and leaves the bytes, whoever worked it out.
     pub fn expect(&mut self, side: usize, call: Call, reply: Reply, after: Vec<u8>) {
-        let (answer, value) = reply;
-        assert!(answer == Answer::Done || value == 0 && after == self.areas[side], "{} changes what it refuses", call);
+        let (answer, value, collected) = reply;
+        let refused = (value, collected) == (0, 0) && after == self.areas[side];
+        assert!(answer == Answer::Done || refused, "{} changes what it refuses", call);
         self.say(format!("{} {}", SIDES[side], call));
+        let given = match call {
+            Call::TakeReason(_) => format!("{} {}", value, collected),
+            _ => value.to_string(),
+        };
         let bytes = if after.is_empty() { "-".to_string() } else { hex(&after) };
-        writeln!(self.expected, "{} {} {}", answer.number(), value, bytes).expect("memory takes what is written");
+        writeln!(self.expected, "{} {} {}", answer.number(), given, bytes).expect("memory takes what is written");
         self.areas[side] = after;
         *self.counts.entry((call.name(), answer.number())).or_default() += 1;
+        if let (Call::TakeReason(_), Answer::Done) = (call, answer) {
+            *self.reasons.entry((value, collected)).or_default() += 1;
+        }
     }
 
     pub fn count(&self) -> usize {

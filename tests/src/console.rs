@@ -1,9 +1,9 @@
 //! The bench's commands on two ends and a link: one line in, one line out.
 
-use crate::end::End;
+use crate::end::{End, Reason};
 use crate::fields::fields;
 use crate::finder::find;
-use crate::frame::{build, check, crc, DATA, SYMBOLS};
+use crate::frame::{build, check, crc, Fault, DATA, SYMBOLS};
 use crate::link::Link;
 use std::fmt::Write as _;
 use std::io::{BufRead, Result as IoResult, Write};
@@ -55,7 +55,7 @@ impl Console {
             b"link" => self.link(rest),
             b"slot" => self.slot(rest),
             b"mark" => self.mark(rest),
-            b"check" => Ok(check(&symbols(rest)?).number().to_string()),
+            b"check" => say_check(&symbols(rest)?),
             b"find" => say_find(&symbols(rest)?),
             b"crc" => Ok(joined(&crc(&ten_bytes(rest)?), |byte| format!("{:02X}", byte))),
             b"build" => Ok(joined(&build(&ten_bytes(rest)?), |symbol| format!("{:03X}", symbol))),
@@ -137,7 +137,7 @@ fn call(end: &mut End, words: &[Word]) -> Said {
             let (answer, symbol) = end.send();
             Ok(format!("{} {:03X}", answer.number(), symbol))
         }
-        (b"take", [symbol]) => Ok(end.take(hex(symbol, LARGEST)?).number().to_string()),
+        (b"take", [symbol]) => say_take(end, hex(symbol, LARGEST)?),
         (b"read", [register]) => {
             let (answer, value) = end.read(decimal(register, LARGEST)?);
             Ok(format!("{} {:04X}", answer.number(), value))
@@ -177,6 +177,29 @@ fn set(end: &mut End, name: Word, index: Option<&Word>, value: Word) -> Said {
     };
     field.store(index, hex(value, u32::from(field.largest()))?);
     Ok("ok".to_string())
+}
+
+fn say_take(end: &mut End, symbol: u16) -> Said {
+    let (answer, reason) = end.take(symbol);
+    let number = answer.number();
+    Ok(match reason {
+        None => number.to_string(),
+        Some(Reason::Accepted) => format!("{} accepted", number),
+        Some(Reason::Crc) => format!("{} crc", number),
+        Some(Reason::Marked(collected)) => format!("{} marked {}", number, collected),
+        Some(Reason::Early(collected)) => format!("{} early {}", number, collected),
+    })
+}
+
+fn say_check(list: &[u16]) -> Said {
+    let (answer, fault) = check(list);
+    let number = answer.number();
+    Ok(match fault {
+        None => number.to_string(),
+        Some(Fault::Marked(place)) => format!("{} marked {}", number, place),
+        Some(Fault::Parity(place)) => format!("{} parity {}", number, place),
+        Some(Fault::Crc) => format!("{} crc", number),
+    })
 }
 
 fn say_find(list: &[u16]) -> Said {

@@ -1,4 +1,5 @@
-//! One end: document 01, "Sending, one symbol a slot" and "Taking, one symbol". The registers are in `registers`.
+//! One end: document 01, "Sending, one symbol a slot" and "Taking, one symbol", with the reason of document 02, #105.
+//! The registers are in `registers`.
 //!
 //! Every field is public, as any end may come in; one that is out of range is answered 1 and left as it was.
 
@@ -48,6 +49,17 @@ pub struct End {
     pub rx_toggle: bool,
     pub rx_number: u8,
     pub rx_bytes: [u8; 8],
+}
+
+/// What became of a collection, at its twelfth symbol or where it is broken. An empty one can't be broken.
+#[derive(Clone, Copy, Debug, PartialEq, Eq)]
+pub enum Reason {
+    Accepted,
+    Crc,
+    /// Broken by a marked symbol, having had so many.
+    Marked(u8),
+    /// Broken by an early even symbol, having had so many.
+    Early(u8),
 }
 
 impl End {
@@ -116,16 +128,15 @@ impl End {
         self.tx = build(&data);
     }
 
-    pub fn take(&mut self, symbol: u16) -> Answer {
+    pub fn take(&mut self, symbol: u16) -> (Answer, Option<Reason>) {
         if !self.is_good() {
-            return Answer::BadEnd;
+            return (Answer::BadEnd, None);
         }
         if symbol > LARGEST_SYMBOL {
-            return Answer::BadSymbol;
+            return (Answer::BadSymbol, None);
         }
         self.settle();
-        self.collect(symbol);
-        Answer::Done
+        (Answer::Done, self.collect(symbol))
     }
 
     /// Taking step 1.
@@ -137,22 +148,30 @@ impl End {
     }
 
     /// Taking step 2, and step 3 with the twelfth symbol.
-    fn collect(&mut self, symbol: u16) {
+    fn collect(&mut self, symbol: u16) -> Option<Reason> {
+        let collected = self.count;
         if is_marked(symbol) {
             self.count = 0;
-        } else if is_even(symbol) {
+            return (collected > 0).then_some(Reason::Marked(collected));
+        }
+        if is_even(symbol) {
             self.rx[0] = symbol;
             self.count = 1;
-        } else if self.count > 0 {
-            self.rx[usize::from(self.count)] = symbol;
+            return (collected > 0).then_some(Reason::Early(collected));
+        }
+        if collected > 0 {
+            self.rx[usize::from(collected)] = symbol;
             self.count += 1;
         }
-        if usize::from(self.count) == SYMBOLS {
-            self.count = 0;
-            if has_right_crc(&self.rx) {
-                self.accept();
-            }
+        if usize::from(self.count) < SYMBOLS {
+            return None;
         }
+        self.count = 0;
+        if !has_right_crc(&self.rx) {
+            return Some(Reason::Crc);
+        }
+        self.accept();
+        Some(Reason::Accepted)
     }
 
     /// Taking step 3, the CRC being right.

@@ -1,4 +1,5 @@
-//! Document 01, "The frame": twelve symbols of nine bits, bits 7..0 data, bit 8 parity.
+//! Document 01, "The frame": twelve symbols of nine bits, bits 7..0 data, bit 8 parity. The first fault is document
+//! 02's, #105.
 
 use crate::answer::Answer;
 
@@ -87,12 +88,36 @@ pub fn is_acceptable(frame: &Frame) -> bool {
         && has_right_crc(frame)
 }
 
-/// The frame check.
-pub fn check(list: &[u16]) -> Answer {
+/// What is wrong first with a frame that is not acceptable.
+#[derive(Clone, Copy, Debug, PartialEq, Eq)]
+pub enum Fault {
+    /// The symbol at this place is marked.
+    Marked(usize),
+    /// The symbol at this place has wrong parity.
+    Parity(usize),
+    Crc,
+}
+
+/// The lowest symbol that is marked or has wrong parity, and which of the two: marked wins at the same symbol. If there
+/// is none, the CRC.
+fn first_fault(frame: &Frame) -> Fault {
+    for (place, symbol) in frame.iter().enumerate() {
+        if is_marked(*symbol) {
+            return Fault::Marked(place);
+        }
+        if !has_right_parity(place, *symbol) {
+            return Fault::Parity(place);
+        }
+    }
+    Fault::Crc
+}
+
+/// The frame check. Answer 9 comes with the first fault.
+pub fn check(list: &[u16]) -> (Answer, Option<Fault>) {
     match Frame::try_from(list) {
-        Err(_) => Answer::BadLength,
-        Ok(_) if list.iter().any(|symbol| *symbol > LARGEST_SYMBOL) => Answer::BadSymbol,
-        Ok(frame) if is_acceptable(&frame) => Answer::Done,
-        Ok(_) => Answer::NotAcceptable,
+        Err(_) => (Answer::BadLength, None),
+        Ok(_) if list.iter().any(|symbol| *symbol > LARGEST_SYMBOL) => (Answer::BadSymbol, None),
+        Ok(frame) if is_acceptable(&frame) => (Answer::Done, None),
+        Ok(frame) => (Answer::NotAcceptable, Some(first_fault(&frame))),
     }
 }

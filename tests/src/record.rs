@@ -1,30 +1,33 @@
-//! An end as a record of bytes, and the seven calls on one: document 02, #104.
+//! An end as a record of bytes, and the calls on one: document 02, #104, and #105's reason.
 //!
 //! Two bytes of length, big-endian, counting the whole record; one version byte; then the end, field by field in the
 //! order of `fields`. A symbol has two bytes, the high one first; everything else has one.
 
 use crate::answer::Answer;
-use crate::end::End;
+use crate::end::{End, Reason};
 use crate::fields::{fields, Field};
 use std::fmt;
 
 pub const LENGTH: usize = 92;
 pub const VERSION: u8 = 1;
 
-/// The seven calls. Written out, one is the driver's command for it.
+/// The calls. Written out, one is the driver's command for it.
 #[derive(Clone, Copy, Debug, PartialEq, Eq)]
 pub enum Call {
     Reset,
     Send,
     Take(u16),
+    /// Takes, and tells the reason.
+    TakeReason(u16),
     Read(u16),
     Write(u16, u16),
     SetHealth(u16),
     Present,
 }
 
-/// Answer and value, 0 where the call has none.
-pub type Reply = (Answer, u16);
+/// Answer and value, 0 where the call has none. The call that tells the reason gives its number as the value, and how
+/// many symbols a broken collection had; no other call gives that third number, so it is 0.
+pub type Reply = (Answer, u16, u16);
 
 impl Call {
     pub fn name(&self) -> &'static str {
@@ -32,6 +35,7 @@ impl Call {
             Call::Reset => "reset",
             Call::Send => "send",
             Call::Take(_) => "take",
+            Call::TakeReason(_) => "reason",
             Call::Read(_) => "read",
             Call::Write(..) => "write",
             Call::SetHealth(_) => "health",
@@ -41,18 +45,24 @@ impl Call {
 
     /// The call on an end, as document 01 has it.
     pub fn on_end(self, end: &mut End) -> Reply {
-        match self {
+        let (answer, value) = match self {
             Call::Reset => {
                 *end = End::reset();
                 (Answer::Done, 0)
             }
             Call::Send => end.send(),
-            Call::Take(symbol) => (end.take(symbol), 0),
+            Call::Take(symbol) => (end.take(symbol).0, 0),
+            Call::TakeReason(symbol) => {
+                let (answer, reason) = end.take(symbol);
+                let (number, collected) = reason_numbers(reason);
+                return (answer, number, collected);
+            }
             Call::Read(register) => end.read(register),
             Call::Write(register, value) => (end.write(register, value), 0),
             Call::SetHealth(health) => (end.set_health(health), 0),
             Call::Present => (Answer::Done, u16::from(end.is_present())),
-        }
+        };
+        (answer, value, 0)
     }
 
     /// The call on a record. Reset asks only for an area of the right size; a refusal leaves all bytes.
@@ -63,7 +73,7 @@ impl Call {
         };
         let mut end = match end {
             Some(end) => end,
-            None => return (Answer::BadRecord, 0),
+            None => return (Answer::BadRecord, 0, 0),
         };
         let reply = self.on_end(&mut end);
         if reply.0 == Answer::Done {
@@ -78,9 +88,22 @@ impl fmt::Display for Call {
         let name = self.name();
         match self {
             Call::Reset | Call::Send | Call::Present => write!(out, "{}", name),
-            Call::Take(number) | Call::Read(number) | Call::SetHealth(number) => write!(out, "{} {}", name, number),
+            Call::Take(number) | Call::TakeReason(number) | Call::Read(number) | Call::SetHealth(number) => {
+                write!(out, "{} {}", name, number)
+            }
             Call::Write(register, value) => write!(out, "{} {} {}", name, register, value),
         }
+    }
+}
+
+/// The reason by number, as the header has it, and how many symbols a broken collection had.
+fn reason_numbers(reason: Option<Reason>) -> (u16, u16) {
+    match reason {
+        None => (0, 0),
+        Some(Reason::Accepted) => (1, 0),
+        Some(Reason::Crc) => (2, 0),
+        Some(Reason::Marked(collected)) => (3, u16::from(collected)),
+        Some(Reason::Early(collected)) => (4, u16::from(collected)),
     }
 }
 

@@ -5,6 +5,7 @@ use crate::print;
 use crate::set;
 use end::End;
 use end::Next;
+use frame::reason::Reason;
 ghost use Prim.Native.Nat.{_≤_, _+_};
 ghost use lib.ListN.{length};
 ghost use Rattle.bench.specs.Bounds.{Room};
@@ -58,7 +59,14 @@ fn take(end: End, symbol: u16, out: &mut [u8], at: usize) -> Called
     requires { ⌜ Room at (now out) ⌝ }
     ensures { λ r. ⌜ r .at ≤ length (now (out .exit)) ⌝ }
 {
-    answered(end.take(symbol), out, at)
+    let taken = end.take(symbol);
+    let next = taken.end;
+    let answer = taken.answer;
+    let reason = taken.reason;
+    let told = print::answer(out, at, answer);
+    let said = ended(out, told, reason);
+    let put = print::byte(out, said, b'\n');
+    Called { end: next, at: put }
 }
 
 fn read(end: End, register: u16, out: &mut [u8], at: usize) -> Called
@@ -126,6 +134,20 @@ fn answered(next: Next, out: &mut [u8], at: usize) -> Called
     let told = print::answer(out, at, answer);
     let put = print::byte(out, told, b'\n');
     Called { end, at: put }
+}
+
+// What became of the collection, after a take's answer.
+fn ended(out: &mut [u8], at: usize, reason: Reason) -> usize
+    requires { ⌜ at + 32 ≤ length (now out) ⌝ }
+    ensures { λ r. ⌜ r ≤ at + 32 ⌝ }
+{
+    match reason {
+        Reason::Nothing => at,
+        Reason::Accepted => print::text(out, at, b" accepted"),
+        Reason::Crc => print::text(out, at, b" crc"),
+        Reason::Marked(count) => print::numbered(out, at, b" marked ", count),
+        Reason::Parity(count) => print::numbered(out, at, b" early ", count),
+    }
 }
 
 // A line's value, after its answer.

@@ -10,6 +10,7 @@ use crate::words::MOST;
 use crate::words::Number;
 use crate::words::next;
 use crate::words::spelled;
+use frame::reason::Reason;
 ghost use mathlib.Core.Path.{_≡_};
 ghost use Prim.Native.Nat.{_≤_, _+_};
 ghost use lib.ListN.{length};
@@ -100,9 +101,26 @@ fn check(list: &[u16], out: &mut [u8], at: usize) -> usize
     requires { ⌜ Room at (now out) ⌝ }
     ensures { λ r. ⌜ r ≤ length (now (out .exit)) ⌝ }
 {
-    let answer = frame::check(list);
-    let put = print::answer(out, at, answer);
+    let checked = frame::check(list);
+    let answer = checked.answer;
+    let reason = checked.reason;
+    let told = print::answer(out, at, answer);
+    let put = failed(out, told, reason);
     print::byte(out, put, b'\n')
+}
+
+// Why a frame failed, after answer 9.
+fn failed(out: &mut [u8], at: usize, reason: Reason) -> usize
+    requires { ⌜ at + 32 ≤ length (now out) ⌝ }
+    ensures { λ r. ⌜ r ≤ at + 32 ⌝ }
+{
+    match reason {
+        Reason::Nothing => at,
+        Reason::Accepted => at,
+        Reason::Crc => print::text(out, at, b" crc"),
+        Reason::Marked(place) => print::numbered(out, at, b" marked ", place),
+        Reason::Parity(place) => print::numbered(out, at, b" parity ", place),
+    }
 }
 
 fn find(list: &[u16], out: &mut [u8], at: usize) -> usize

@@ -98,6 +98,15 @@ pub fn answer(out: &mut [u8], at: usize, answer: Answer) -> usize
     decimal(out, at, number as u64)
 }
 
+// A word, which brings its own spaces, and a number behind it.
+pub fn numbered(out: &mut [u8], at: usize, word: &[u8], number: u8) -> usize
+    requires { ⌜ at + length (now word) + 20 ≤ length (now out) ⌝ }
+    ensures { λ r. ⌜ r ≤ at + length (now (word .entry)) + 20 ⌝ }
+{
+    let put = text(out, at, word);
+    decimal(out, put, number as u64)
+}
+
 // What is wrong with a line.
 pub fn fault(out: &mut [u8], at: usize, fault: Fault) -> usize
     requires { ⌜ at + 32 ≤ length (now out) ⌝ }

@@ -16,7 +16,7 @@ use mathlib.Core.List.{List, [], _∷_, _++_, reverse}
 use mathlib.Core.Path.{_≡_}
 use lib.ListN.{replicate, set, drop}
 use Rattle.answer.specs.Number.{numberOf}
-use Rattle.frame.specs.Check.{checkOf}
+use Rattle.frame.specs.Reason.{checkedOf}
 use Rattle.end.specs.declared.End.{End}
 use Rattle.end.specs.Good.{resetOf}
 use Rattle.end.specs.Taking.{takeOf}
@@ -40,7 +40,7 @@ Agree (r ∷ rs) = (r .got ≡ r .want) × Agree rs
 -- What is done
 
 abbrev pub check : List ℕ → List ℕ
-check l = numberOf (checkOf l) ∷ []
+check l = numberOf (checkedOf l .answer) ∷ []
 
 abbrev pub near : List Event → End
 near es = run 0 0 es start .a .end

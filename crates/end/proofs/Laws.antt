@@ -7,21 +7,26 @@
 --   copy-step               copying a list an element at a time
 --   eight                   a list of eight, listed
 --   count-is                a collection whose count is known
+--   accepts-reason          the reason is accepted exactly where step 3's test holds
 --   slot-position           making a frame leaves the position
 -- Assumes nothing.
 use Prim.Native.Nat.{ℕ, zero, suc, _≤_, _<_}
-use mathlib.Core.Bool.{Bool, true, false, cond, _&&_, _||_, true≢false}
+use mathlib.Core.Bool.{Bool, true, false, not, cond, _&&_, _||_, true≢false}
 use mathlib.Core.List.{List, [], _∷_, map}
 use mathlib.Core.Path.{_≡_, refl, sym, ap, ap₂, _∙_}
 use native.Mathlib.Nat.{le-of-suc-le-suc}
 use native.Mathlib.Omega.{arith}
 use lib.Dec.{eqb}
 use lib.ListN.{length, getD, set, take, drop}
-use borrow.Author.Tests.{lt-ltb, le-ltb, ltb-false}
+use borrow.Author.Tests.{lt-ltb, le-ltb, ltb-false, eqb-true}
+use Rattle.frame.specs.declared.reason.Reason.the-variants.{Nothing, Accepted, Crc, Marked, Parity}
+use Rattle.frame.specs.Frame.{marked, even, crcRight}
+use Rattle.frame.specs.Reason.{isAccepted}
 use Rattle.end.specs.declared.Collector.{Collector}
 use Rattle.end.specs.declared.End.{End}
 use Rattle.end.specs.Good.{above, bad}
 use Rattle.end.specs.Sending.{frameStart, started, slotOf}
+use Rattle.end.specs.Taking.{endedBy}
 
 -- Bools
 
@@ -142,3 +147,25 @@ started-position false e = refl
 
 pub slot-position : (e : End) → slotOf e .sender .position ≡ e .sender .position
 slot-position e = started-position (eqb (e .sender .position) 0) e
+
+-- The reason of a collection
+
+pub accepts-reason : (s n : ℕ) (l : List ℕ)
+    → isAccepted (endedBy s n l) ≡ ((not (marked s) && (not (even s) && eqb n 11)) && crcRight l)
+accepts-reason s n l = go (eqb n 0) (marked s) (even s) (eqb n 11) (crcRight l) refl refl
+  where
+    none : (m v b : Bool) → false ≡ ((not m && (not v && false)) && b)
+    none true v b = refl
+    none false true b = refl
+    none false false b = refl
+
+    go : (z m v f b : Bool) → eqb n 0 ≡ z → eqb n 11 ≡ f
+        → isAccepted (cond z Nothing (cond m (Marked n) (cond v (Parity n) (cond f (cond b Accepted Crc) Nothing))))
+        ≡ ((not m && (not v && f)) && b)
+    go true m v true b y e = absurd (omega (arith, eqb-true n 0 y, eqb-true n 11 e))
+    go true m v false b y e = none m v b
+    go false true v f b y e = refl
+    go false false true f b y e = refl
+    go false false false true true y e = refl
+    go false false false true false y e = refl
+    go false false false false b y e = refl

@@ -5,8 +5,11 @@
 --   placed, counted, collected   step 2, and the emptying of step 3: the collection's symbols, its count, both
 --   saidBy l       what the twelve symbols l say
 --   accepts s c    step 3's test: the twelfth symbol, and the CRC is right
+--   endedBy s n l  request #105: what becomes with the symbol s of a collection of n symbols, l being its symbols then
+--   reasonBy s c   that of the collection c
 --   enters, entered   step 3's second test: the register empty, Valid 1, Toggle the expected one; and the entering
 --   taken s e      the three steps
+--   tookOf s e     what they give
 --   takeOf e s     what take gives
 -- Assumes nothing.
 use Prim.Native.Nat.{ℕ, _+_, _/_, _%_}
@@ -15,13 +18,15 @@ use mathlib.Core.List.{List, map}
 use lib.Dec.{eqb, ltb}
 use lib.ListN.{getD, set, take, drop}
 use Rattle.answer.specs.declared.Answer.the-variants.{Done, BadEnd, BadSymbol}
+use Rattle.frame.specs.declared.reason.Reason.{Reason}
+use Rattle.frame.specs.declared.reason.Reason.the-variants.{Nothing, Accepted, Crc, Marked, Parity}
 use Rattle.frame.specs.Bits.{odd}
 use Rattle.frame.specs.Frame.{dataOf, marked, even, crcRight}
 use Rattle.end.specs.declared.End.{End}
 use Rattle.end.specs.declared.Collector.{Collector}
 use Rattle.end.specs.declared.Heard.{Heard}
 use Rattle.end.specs.declared.Inbox.{Inbox}
-use Rattle.end.specs.declared.Next.{Next}
+use Rattle.end.specs.declared.Taken.{Taken}
 use Rattle.end.specs.Good.{bad}
 
 -- 1. Settle
@@ -79,6 +84,18 @@ saidBy l = record {
 abbrev pub accepts : ℕ → Collector → Bool
 accepts s c = completes s c && crcRight (placed s c)
 
+-- an empty collection cannot be broken; a mark breaks any other, an even symbol comes early
+abbrev pub endedBy : ℕ → ℕ → List ℕ → Reason
+endedBy s n l =
+    cond (eqb n 0) Nothing
+    (cond (marked s) (Marked n)
+    (cond (even s) (Parity n)
+    (cond (eqb n 11) (cond (crcRight l) Accepted Crc)
+    Nothing)))
+
+abbrev pub reasonBy : ℕ → Collector → Reason
+reasonBy s c = endedBy s (c .count) (placed s c)
+
 -- one of two, field by field
 abbrev pub pickHeard : Bool → Heard → Heard → Heard
 pickHeard b x y = record {
@@ -119,10 +136,13 @@ taken s e = record {
       (settled e);
 }
 
-unfoldable pub takeOf : End → ℕ → Next
+abbrev pub tookOf : ℕ → End → Taken
+tookOf s e = record { answer = Done; reason = reasonBy s (e .collector); end = taken s e }
+
+unfoldable pub takeOf : End → ℕ → Taken
 takeOf e s =
     cond (bad e)
-    (record { answer = BadEnd; end = e })
+    (record { answer = BadEnd; reason = Nothing; end = e })
     (cond (ltb 1023 s)
-    (record { answer = BadSymbol; end = e })
-    (record { answer = Done; end = taken s e }))
+    (record { answer = BadSymbol; reason = Nothing; end = e })
+    (tookOf s e))

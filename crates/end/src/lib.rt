@@ -12,6 +12,7 @@ mod taking;
 mod writing;
 
 use answer::Answer;
+use frame::reason::Reason;
 
 // The sending side: the twelve symbols being sent and where the next slot is.
 pub struct Sender {
@@ -90,7 +91,14 @@ pub struct Got {
     pub end: End,
 }
 
-// What take, write and set health give.
+// What take gives: what became of the collection.
+pub struct Taken {
+    pub answer: Answer,
+    pub reason: Reason,
+    pub end: End,
+}
+
+// What write and set health give.
 pub struct Next {
     pub answer: Answer,
     pub end: End,

@@ -3,60 +3,64 @@ use crate::Collector;
 use crate::End;
 use crate::Heard;
 use crate::Inbox;
-use crate::Next;
+use crate::Taken;
 use crate::good::bad;
 use crate::message::message_of;
 use answer::Answer;
+use frame::reason::Reason;
 ghost use mathlib.Core.Path.{_≡_};
-ghost use mathlib.Core.Bool.{false, _&&_};
+ghost use mathlib.Core.Bool.{false};
 ghost use Prim.Native.Nat.{_≤_};
-ghost use Rattle.frame.specs.Frame.{crcRight};
 ghost use Rattle.end.specs.Good.{bad};
-ghost use Rattle.end.specs.Taking.{settled, completes, collected, saidBy, pickHeard, enters, entered};
-ghost use Rattle.end.specs.Taking.{taken, takeOf};
+ghost use Rattle.end.specs.Taking.{settled, collected, endedBy, saidBy, pickHeard, enters, entered};
+ghost use Rattle.end.specs.Taking.{tookOf, takeOf};
 
 impl End {
-    // Settle, collect and, with the twelfth symbol of a frame whose CRC is right, accept and enter.
-    pub fn take(self, symbol: u16) -> Next
+    // Settle, collect and, with the twelfth symbol of a frame whose CRC is right, accept and enter. Says what became of
+    // the collection.
+    pub fn take(self, symbol: u16) -> Taken
         ensures { λ r. ⌜ r ≡ takeOf self symbol ⌝ }
     {
         if bad(self) {
-            return Next {
+            return Taken {
                 answer: Answer::BadEnd,
+                reason: Reason::Nothing,
                 end: self,
             };
         }
         if symbol > frame::LARGEST {
-            return Next {
+            return Taken {
                 answer: Answer::BadSymbol,
+                reason: Reason::Nothing,
                 end: self,
             };
         }
-        let next = taken(symbol, self);
-        Next {
-            answer: Answer::Done,
-            end: next,
-        }
+        taken(symbol, self)
     }
 }
 
 // The three steps.
-fn taken(symbol: u16, mut end: End) -> End
+fn taken(symbol: u16, mut end: End) -> Taken
     requires { ⌜ bad end ≡ false ⌝ }
-    ensures { λ r. ⌜ r ≡ taken symbol end ⌝ }
+    ensures { λ r. ⌜ r ≡ tookOf symbol end ⌝ }
 {
     let before = end.collector;
     let last = end.heard;
     let inbox = settle(end);
     let collector = collect(symbol, before);
     let symbols = collector.symbols;
-    let accepted = accept(symbol, before, symbols);
+    let reason = reason_of(symbol, before, symbols);
+    let accepted = frame::reason::is_accepted(reason);
     let heard = hear(accepted, symbols, last);
     let entered = enter(accepted, symbols, inbox);
     end.collector = collector;
     end.heard = heard;
     end.inbox = entered;
-    end
+    Taken {
+        answer: Answer::Done,
+        reason,
+        end,
+    }
 }
 
 // Step 1. If the last accepted frame had Valid 0, or the acknowledge is 0, then expected toggle takes that frame's
@@ -103,19 +107,28 @@ fn collect(symbol: u16, mut collector: Collector) -> Collector
     collector
 }
 
-// Step 3's test: the symbol is the twelfth of the collection as it was, and the CRC of all twelve is right.
-fn accept(symbol: u16, before: Collector, symbols: [u16; 12]) -> bool
-    ensures { λ r. ⌜ r ≡ completes symbol before && crcRight symbols ⌝ }
+// What becomes of the collection as it was, which the symbol makes `symbols`. A mark or an even symbol breaks one that
+// is not empty; at the twelfth symbol the CRC decides (step 3's test).
+fn reason_of(symbol: u16, before: Collector, symbols: [u16; 12]) -> Reason
+    ensures { λ r. ⌜ r ≡ endedBy symbol (before .count) symbols ⌝ }
 {
+    let had = before.count;
+    if had == 0 {
+        return Reason::Nothing;
+    }
     if symbol >= frame::MARKED {
-        return false;
+        return Reason::Marked(had);
     }
     if frame::parity(symbol) {
-        if before.count == 11 {
-            return frame::crc_right(symbols);
+        if had == 11 {
+            if frame::crc_right(symbols) {
+                return Reason::Accepted;
+            }
+            return Reason::Crc;
         }
+        return Reason::Nothing;
     }
-    false
+    Reason::Parity(had)
 }
 
 // Partner health, both Ping bits, Valid, Toggle, Ack and TogAck are taken from an accepted frame.

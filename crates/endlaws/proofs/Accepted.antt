@@ -17,7 +17,7 @@ use borrow.Author.Tests.{eqb-true, eq-eqb, not-true, leb-true, leb-false}
 use Rattle.frame.specs.Frame.{marked, even, crcRight, noneMarked, allOdd, paritiesRight, acceptable}
 use Rattle.end.specs.declared.Collector.{Collector}
 use Rattle.end.specs.declared.End.{End}
-use Rattle.end.specs.declared.Next.{Next}
+use Rattle.end.specs.declared.Taken.{Taken}
 use Rattle.end.specs.Good.{bad, resetOf}
 use Rattle.end.specs.Taking.{collected, accepts, taken, takeOf}
 use Rattle.endlaws.specs.Calls.{Call, after, calls, reached}
@@ -152,8 +152,8 @@ after-collector Call.send e h = send-leaves e .collector
 after-collector (Call.take s) e h = go (leb s 1023) refl
   where
     go : (b : Bool) → leb s 1023 ≡ b → takeOf e s .end .collector ≡ collects (cond b (s ∷ []) []) (e .collector)
-    go true k = ap (λ (r : Next). r .end .collector) (take-good e s h (leb-true s 1023 k))
-    go false k = ap (λ (r : Next). r .end .collector) (take-above e s h (leb-false s 1023 k))
+    go true k = ap (λ (r : Taken). r .end .collector) (take-good e s h (leb-true s 1023 k))
+    go false k = ap (λ (r : Taken). r .end .collector) (take-above e s h (leb-false s 1023 k))
 after-collector (Call.read r) e h = read-leaves e r .collector
 after-collector (Call.write r v k) e h = write-leaves e r v .collector
 after-collector (Call.health x) e h = health-leaves e x .collector

@@ -2,7 +2,7 @@
 -- holds and no earlier row does (registers 1, 2, 3, 10, 4; take 1, then 5; health 1, then 6), and 0 when none does.
 --   bad-met         what row 1 is, spelled out
 --   CALL-N          the call gives the number N exactly when ..
---   CALL-refused    any number but 0: the end as it came, and value and symbol 0
+--   CALL-refused    any number but 0: the end as it came, value and symbol 0, and no reason
 -- Assumes nothing.
 use Prim.Native.Nat.{ℕ, _<_}
 use mathlib.Core.Bool.{Bool, true, false, cond}
@@ -11,10 +11,12 @@ use mathlib.Core.Path.{_≡_, refl}
 use native.Mathlib.Omega.{arith}
 use lib.Dec.{ltb}
 use Rattle.answer.specs.Number.{numberOf}
+use Rattle.frame.specs.declared.reason.Reason.the-variants.{Nothing}
 use Rattle.end.specs.declared.End.{End}
 use Rattle.end.specs.declared.Got.{Got}
 use Rattle.end.specs.declared.Next.{Next}
 use Rattle.end.specs.declared.Sent.{Sent}
+use Rattle.end.specs.declared.Taken.{Taken}
 use Rattle.end.specs.Good.{bad, presentOf}
 use Rattle.end.specs.Sending.{sendOf}
 use Rattle.end.specs.Taking.{takeOf}
@@ -33,6 +35,9 @@ sent r = numberOf (r .answer)
 abbrev got : Got → ℕ
 got r = numberOf (r .answer)
 
+abbrev took : Taken → ℕ
+took r = numberOf (r .answer)
+
 abbrev next : Next → ℕ
 next r = numberOf (r .answer)
 
@@ -50,18 +55,18 @@ send-0 e = pass sent (bad e) (met e) (λ h. omega arith) refl
 
 pub take-1 : (e : End) (s : ℕ) → (numberOf (takeOf e s .answer) ≡ 1) ↔ Met e
 unfolding takeOf
-take-1 e s = hit next (bad e) (met e) refl (never next (ltb 1023 s) (λ h. omega arith) (λ h. omega arith))
+take-1 e s = hit took (bad e) (met e) refl (never took (ltb 1023 s) (λ h. omega arith) (λ h. omega arith))
 
 pub take-5 : (e : End) (s : ℕ) → (numberOf (takeOf e s .answer) ≡ 5) ↔ (¬ Met e × (1023 < s))
 unfolding takeOf
 take-5 e s =
-    skip next (bad e) (met e) (λ h. omega arith) (λ _. hit next (ltb 1023 s) (above-row 1023 s) refl (λ h. omega arith))
+    skip took (bad e) (met e) (λ h. omega arith) (λ _. hit took (ltb 1023 s) (above-row 1023 s) refl (λ h. omega arith))
 
 pub take-0 : (e : End) (s : ℕ) → (numberOf (takeOf e s .answer) ≡ 0) ↔ (¬ Met e × ¬ (1023 < s))
 unfolding takeOf
 take-0 e s =
-    skip next (bad e) (met e) (λ h. omega arith)
-    (λ _. pass next (ltb 1023 s) (above-row 1023 s) (λ h. omega arith) refl)
+    skip took (bad e) (met e) (λ h. omega arith)
+    (λ _. pass took (ltb 1023 s) (above-row 1023 s) (λ h. omega arith) refl)
 
 -- read
 
@@ -179,14 +184,19 @@ Unread e r = (r .value ≡ 0) × (r .end ≡ e)
 abbrev Unmoved : End → Next → Type 0
 Unmoved e r = r .end ≡ e
 
+abbrev Untaken : End → Taken → Type 0
+Untaken e r = (r .reason ≡ Nothing) × (r .end ≡ e)
+
 pub send-refused : (e : End) → ¬ (numberOf (sendOf e .answer) ≡ 0) → (sendOf e .symbol ≡ 0) × (sendOf e .end ≡ e)
 unfolding sendOf
 send-refused e = refused sent (Unsent e) (bad e) (refl, refl) (λ n. absurd (n refl))
 
-pub take-refused : (e : End) (s : ℕ) → ¬ (numberOf (takeOf e s .answer) ≡ 0) → takeOf e s .end ≡ e
+pub take-refused : (e : End) (s : ℕ) → ¬ (numberOf (takeOf e s .answer) ≡ 0)
+    → (takeOf e s .reason ≡ Nothing) × (takeOf e s .end ≡ e)
 unfolding takeOf
 take-refused e s =
-    refused next (Unmoved e) (bad e) refl (refused next (Unmoved e) (ltb 1023 s) refl (λ n. absurd (n refl)))
+    refused took (Untaken e) (bad e) (refl, refl)
+    (refused took (Untaken e) (ltb 1023 s) (refl, refl) (λ n. absurd (n refl)))
 
 pub read-refused : (e : End) (r : ℕ) → ¬ (numberOf (readOf e r .answer) ≡ 0)
     → (readOf e r .value ≡ 0) × (readOf e r .end ≡ e)

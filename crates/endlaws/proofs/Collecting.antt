@@ -96,22 +96,25 @@ unfolding collects
 holding-frame x l c h s k =
     holding-odds l (collected x c) (x ∷ []) (holding-start x c h (s .0) (s .1)) (omega arith) (omega arith) (s .2)
 
--- the twelfth symbol: the CRC of what is held and this symbol decides
+-- the twelfth symbol: what is held and this symbol
+pub placed-twelfth : (s : ℕ) (c : Collector) (p : List ℕ) → Holding c p → length p ≡ 11 → marked s ≡ false
+    → even s ≡ false
+    → placed s c ≡ p ++ (s ∷ [])
+placed-twelfth s c p h k m v =
+    added s c p h (omega arith) m v
+    ∙ (set-split (c .symbols) (length p) s (omega (arith, h .whole))
+    ∙ ap₂ (λ (a b : List ℕ). a ++ (s ∷ b)) (h .held)
+    (drop-of-length-le (c .symbols) {i = suc (length p)} (omega (arith, h .whole))))
+
+-- its CRC decides
 pub accepts-twelfth : (s : ℕ) (c : Collector) (p : List ℕ) → Holding c p → length p ≡ 11 → marked s ≡ false
     → even s ≡ false
     → accepts s c ≡ crcRight (p ++ (s ∷ []))
 accepts-twelfth s c p h k m v =
-    ap (λ (b : Bool). b && crcRight (placed s c)) completed ∙ ap crcRight placing
+    ap (λ (b : Bool). b && crcRight (placed s c)) completed ∙ ap crcRight (placed-twelfth s c p h k m v)
   where
     completed : completes s c ≡ true
     completed = rw (m, v, eq-eqb (c .count) 11 (h .count ∙ k))
-
-    placing : placed s c ≡ p ++ (s ∷ [])
-    placing =
-        added s c p h (omega arith) m v
-        ∙ (set-split (c .symbols) (length p) s (omega (arith, h .whole))
-        ∙ ap₂ (λ (a b : List ℕ). a ++ (s ∷ b)) (h .held)
-        (drop-of-length-le (c .symbols) {i = suc (length p)} (omega (arith, h .whole))))
 
 -- a symbol that completes nothing: marked, even, or not the twelfth
 pub accepts-only : (s : ℕ) (c : Collector) → accepts s c ≡ true

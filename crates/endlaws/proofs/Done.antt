@@ -11,13 +11,15 @@ use mathlib.Core.Path.{_≡_, _∙_}
 use lib.Dec.{ltb}
 use borrow.Author.Tests.{le-ltb, lt-ltb, ltb-false}
 use Rattle.answer.specs.declared.Answer.the-variants.{Done, BadSymbol}
+use Rattle.frame.specs.declared.reason.Reason.the-variants.{Nothing}
 use Rattle.end.specs.declared.End.{End}
 use Rattle.end.specs.declared.Got.{Got}
 use Rattle.end.specs.declared.Next.{Next}
 use Rattle.end.specs.declared.Sent.{Sent}
+use Rattle.end.specs.declared.Taken.{Taken}
 use Rattle.end.specs.Good.{bad}
 use Rattle.end.specs.Sending.{slotOf, movedOn, symbolAt, sendOf}
-use Rattle.end.specs.Taking.{taken, takeOf}
+use Rattle.end.specs.Taking.{taken, tookOf, takeOf}
 use Rattle.end.specs.Registers.{outside, readOnly, readOnlyBits, blocked, readEnd, written, withHealth}
 use Rattle.end.specs.Registers.{readOf, writeOf, healthOf}
 use Rattle.endlaws.specs.Calls.{Call, after}
@@ -28,11 +30,12 @@ pub send-good : (e : End) → bad e ≡ false
 unfolding sendOf
 send-good e h = cond-false _ _ h
 
-pub take-good : (e : End) (s : ℕ) → bad e ≡ false → s ≤ 1023 → takeOf e s ≡ record { answer = Done; end = taken s e }
+pub take-good : (e : End) (s : ℕ) → bad e ≡ false → s ≤ 1023 → takeOf e s ≡ tookOf s e
 unfolding takeOf
 take-good e s h k = cond-false _ _ h ∙ cond-false _ _ (le-ltb 1023 s k)
 
-pub take-above : (e : End) (s : ℕ) → bad e ≡ false → 1023 < s → takeOf e s ≡ record { answer = BadSymbol; end = e }
+pub take-above : (e : End) (s : ℕ) → bad e ≡ false → 1023 < s
+    → takeOf e s ≡ record { answer = BadSymbol; reason = Nothing; end = e }
 unfolding takeOf
 take-above e s h k = cond-false _ _ h ∙ cond-true _ _ (lt-ltb 1023 s k)
 
@@ -46,8 +49,8 @@ module _ (P : End → Type 0) (e : End) (p : P e) where
   pub take-case : (s : ℕ) → (bad e ≡ false → s ≤ 1023 → P (taken s e)) → P (takeOf e s .end)
   unfolding takeOf
   take-case s q =
-      either (λ (r : Next). P (r .end)) (bad e) _ _ (λ _. p)
-      (λ g. either (λ (r : Next). P (r .end)) (ltb 1023 s) _ _ (λ _. p) (λ t. q g (ltb-false 1023 s t)))
+      either (λ (r : Taken). P (r .end)) (bad e) _ _ (λ _. p)
+      (λ g. either (λ (r : Taken). P (r .end)) (ltb 1023 s) _ _ (λ _. p) (λ t. q g (ltb-false 1023 s t)))
 
   pub read-case : (r : ℕ) → (bad e ≡ false → outside r ≡ false → P (readEnd e r)) → P (readOf e r .end)
   unfolding readOf

@@ -10,5 +10,6 @@ pub mod Identical
 pub mod Left
 pub mod Collecting
 pub mod Accepted
+pub mod Reasons
 pub mod Through
 pub mod Presence

@@ -9,7 +9,7 @@ use lib.Dec.{leb}
 use borrow.Author.Tests.{leb-true, leb-false}
 use Rattle.end.specs.declared.End.{End}
 use Rattle.end.specs.declared.Heard.{Heard}
-use Rattle.end.specs.declared.Next.{Next}
+use Rattle.end.specs.declared.Taken.{Taken}
 use Rattle.end.specs.Good.{bad, resetOf, presentOf}
 use Rattle.end.specs.Taking.{accepts, taken, takeOf}
 use Rattle.endlaws.specs.Calls.{Call, after, calls, reached}
@@ -38,9 +38,9 @@ after-present (Call.take s) e h = go (leb s 1023) refl
     go : (b : Bool) → leb s 1023 ≡ b → takeOf e s .end .heard .present
         ≡ (e .heard .present || some (cond b ((not (bad e) && accepts s (e .collector)) ∷ []) []))
     go true k =
-        ap (λ (r : Next). r .end .heard .present) (take-good e s h (leb-true s 1023 k))
+        ap (λ (r : Taken). r .end .heard .present) (take-good e s h (leb-true s 1023 k))
         ∙ rw h (pick-or (accepts s (e .collector)) (e .heard .present))
-    go false k = ap (λ (r : Next). r .end .heard .present) (take-above e s h (leb-false s 1023 k)) ∙ sym (or-false _)
+    go false k = ap (λ (r : Taken). r .end .heard .present) (take-above e s h (leb-false s 1023 k)) ∙ sym (or-false _)
 after-present (Call.read r) e h = ap (λ (x : Heard). x .present) (read-leaves e r .heard) ∙ sym (or-false _)
 after-present (Call.write r v k) e h = ap (λ (x : Heard). x .present) (write-leaves e r v .heard) ∙ sym (or-false _)
 after-present (Call.health x) e h = ap (λ (x : Heard). x .present) (health-leaves e x .heard) ∙ sym (or-false _)

@@ -2,5 +2,6 @@ pub mod Calls
 pub mod Shape
 pub mod Rows
 pub mod Taken
+pub mod Reasons
 pub mod Leaves
 pub mod TakenCases

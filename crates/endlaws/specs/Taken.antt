@@ -1,6 +1,6 @@
 -- What is taken and accepted in a list of calls.
 --   takes cs, takenBy c                the symbols taken, in order: a symbol above 1,023 is refused and not taken
---   lastTwelve l                       the last twelve of l; all of l where there are fewer
+--   lastOf n l, lastTwelve l           the last n, the last twelve of l; all of l where there are fewer
 --   acceptances cs e, acceptedBy c e   for each symbol taken, whether a frame was accepted with it (step 3 of taking)
 --   atLast, atNone                     of twelve symbols: a frame is accepted with the last one alone, with none
 --   some bs                            one of bs is true
@@ -27,8 +27,11 @@ unfoldable pub takes : List Call → List ℕ
 takes [] = []
 takes (c ∷ cs) = takenBy c ++ takes cs
 
+abbrev pub lastOf : ℕ → List ℕ → List ℕ
+lastOf n l = drop (length l - n) l
+
 unfoldable pub lastTwelve : List ℕ → List ℕ
-lastTwelve l = drop (length l - 12) l
+lastTwelve l = lastOf 12 l
 
 abbrev pub acceptedBy : Call → End → List Bool
 acceptedBy Call.send e = []

@@ -1,16 +1,21 @@
--- Closed cases that guard the definitions of Taken.antt: P11 of document 01, and P1's frame taken after reset.
+-- Closed cases that guard the definitions of Taken.antt and Reasons.antt: P11 of document 01, P1's frame taken after
+-- reset, and collections that end in each way.
 -- Assumes nothing.
+use Prim.Native.Nat.{ℕ}
 use mathlib.Core.Bool.{xor}
-use mathlib.Core.List.{List, [], _∷_, map}
+use mathlib.Core.List.{List, [], _∷_, _++_, map}
 use mathlib.Core.Path.{_≡_, refl}
 use lib.ListN.{replicate}
 use Rattle.frame.specs.Bits.{odd, bits, number, oddOnes}
 use Rattle.frame.specs.Crc.{plus, times, shift, run, crc}
 use Rattle.frame.specs.Frame.{generator, stream, crcOf, even, crcRight}
+use Rattle.frame.specs.declared.reason.Reason.{Reason}
+use Rattle.frame.specs.Reason.{reasonNumber, placeOf}
 use Rattle.end.specs.Good.{above, bad, resetOf}
 use Rattle.end.specs.Taking.{taken, takeOf}
 use Rattle.end.specs.Registers.{readOf}
 use Rattle.endlaws.specs.Calls.{Call}
+use Rattle.endlaws.specs.Reasons.{reasons}
 use Rattle.endlaws.specs.Taken.{takes, lastTwelve, acceptances, atLast}
 
 p11 : takes (Call.take 1023 ∷ Call.send ∷ Call.take 1024 ∷ Call.take 7 ∷ []) ≡ 1023 ∷ 7 ∷ []
@@ -28,3 +33,28 @@ p1-accepted : acceptances p1 resetOf ≡ atLast
 unfolding p1 acceptances odd bits oddOnes number plus times shift run crc generator stream crcOf even crcRight above bad
     taken takeOf readOf xor
 p1-accepted = refl
+
+-- a reason by its numbers
+abbrev numbers : Reason → ℕ × ℕ
+numbers r = (reasonNumber r, placeOf r)
+
+abbrev nothing : ℕ × ℕ
+nothing = (0, 0)
+
+-- a mark and an odd symbol on an empty collection; two symbols and a mark; a mark again, on an empty collection; three
+-- symbols and an even one, which starts a collection; an even one, and a symbol that is refused
+breaks : List Call
+breaks =
+    map Call.take
+    (0x200 ∷ 0x100 ∷ 0x000 ∷ 0x100 ∷ 0x300 ∷ 0x200 ∷ 0x000 ∷ 0x100 ∷ 0x100 ∷ 0x000 ∷ 0x000 ∷ 0x400 ∷ [])
+
+-- then the rest of P1's frame, and a frame with a wrong CRC
+twelfths : List Call
+twelfths = map Call.take (replicate 11 0x100 ++ (0x000 ∷ replicate 10 0x100) ++ (0x001 ∷ []))
+
+all-reasons : map numbers (reasons (breaks ++ twelfths) resetOf)
+    ≡ (nothing ∷ nothing ∷ nothing ∷ nothing ∷ (3, 2) ∷ nothing ∷ nothing ∷ nothing ∷ nothing ∷ (4, 3) ∷ (4, 1) ∷ [])
+    ++ replicate 10 nothing ++ ((1, 0) ∷ []) ++ replicate 11 nothing ++ ((2, 0) ∷ [])
+unfolding breaks twelfths reasons odd bits oddOnes number plus times shift run crc generator stream crcOf even crcRight
+    above bad taken takeOf readOf xor
+all-reasons = refl

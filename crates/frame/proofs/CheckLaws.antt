@@ -1,5 +1,5 @@
--- Laws of Check.antt: what `someAbove` says of each symbol; the answer table's rows for the frame check, each "exactly
--- when"; and the ways out of the call `check`. `pick` and its rows serve the finder too. Assumes nothing.
+-- Laws of Check.antt: what `someAbove` says of each symbol, and the answer table's rows for the frame check, each
+-- "exactly when". `pick` and its rows serve the finder too. Assumes nothing.
 use Prim.Native.Nat.{ℕ, zero, suc, _+_, _≤_, _<_}
 use native.Mathlib.Numerals.{add-one}
 use native.Mathlib.Omega.{arith}
@@ -15,9 +15,8 @@ use Rattle.answer.specs.Number.{numberOf}
 use Rattle.answer.specs.declared.Answer.{Answer}
 use Rattle.answer.specs.declared.Answer.the-variants.{Done, BadSymbol, BadLength, NotAcceptable}
 use Rattle.frame.specs.Check.{largest, someAbove, checkOf}
-use Rattle.frame.specs.Frame.{crcRight, acceptable}
+use Rattle.frame.specs.Frame.{acceptable}
 use Rattle.frame.proofs.AcceptLaws.{acceptable-length, acceptable-below}
-use Rattle.frame.proofs.RightLaws.{rightFrom, acceptable-right}
 
 -- ---------------------------------------------------------------- numbers above the largest symbol
 
@@ -132,23 +131,3 @@ module _ (l : List ℕ) where
   check-0 =
       let row = pick-0 NotAcceptable (lit< tt) (eqb (length l) 12) (someAbove l) (acceptable l) in
       (λ e. row .0 e .2, λ h. row .1 (eq-eqb (length l) 12 (acceptable-length l h), acceptable-above l h, h))
-
--- ---------------------------------------------------------------- the ways out of `check`
-
-module _ (l : List ℕ) where
-  pub check-length : (length l ≡ 12 → ⊥) → BadLength ≡ checkOf l
-  unfolding checkOf
-  check-length n = rw (ne-eqb (length l) 12 n)
-
-  pub check-above : length l ≡ 12 → someAbove l ≡ true → BadSymbol ≡ checkOf l
-  unfolding checkOf
-  check-above n a = rw (n, a)
-
-  pub check-fault : length l ≡ 12 → someAbove l ≡ false → rightFrom 0 l ≡ false → NotAcceptable ≡ checkOf l
-  unfolding checkOf
-  check-fault n a r = rw (acceptable-right l, n, a, r)
-
-  pub check-crc : (b : Bool) → length l ≡ 12 → someAbove l ≡ false → rightFrom 0 l ≡ true → crcRight l ≡ b
-      → cond b Done NotAcceptable ≡ checkOf l
-  unfolding checkOf
-  check-crc b n a r c = rw (acceptable-right l, n, a, r, c)

@@ -6,6 +6,7 @@ pub mod FrameLaws
 pub mod AcceptLaws
 pub mod DistanceLaws
 pub mod CheckLaws
+pub mod ReasonLaws
 pub mod FillLaws
 pub mod BuildLaws
 pub mod RightLaws

@@ -1,7 +1,8 @@
 -- The frame check's answer: document 01, "The finder" and "Answer numbers", in the table's order 7, 5, 9.
 --   largest        the largest number that is a received symbol
 --   someAbove l    there is a number above it in l
---   rightAt i s    the symbol s may stand at place i of a frame: not marked, even at place 0 and odd at any other
+--   rightParity i s   the symbol s is even at place 0, odd at any other place i
+--   rightAt i s    the symbol s may stand at place i of a frame: not marked, and of the right parity
 --   checkOf l      the answer of the frame check on the list l
 -- Assumes nothing.
 use Prim.Native.Nat.{ℕ}
@@ -20,8 +21,11 @@ unfoldable pub someAbove : List ℕ → Bool
 someAbove [] = false
 someAbove (s ∷ l) = ltb largest s || someAbove l
 
+abbrev pub rightParity : ℕ → ℕ → Bool
+rightParity i s = cond (eqb i 0) (even s) (not (even s))
+
 unfoldable pub rightAt : ℕ → ℕ → Bool
-rightAt i s = not (marked s) && cond (eqb i 0) (even s) (not (even s))
+rightAt i s = not (marked s) && rightParity i s
 
 unfoldable pub checkOf : List ℕ → Answer
 checkOf l =

@@ -3,4 +3,5 @@ pub mod Crc
 pub mod Frame
 pub mod Distance
 pub mod Check
+pub mod Reason
 pub mod FrameCases

@@ -1,11 +1,15 @@
 // The frame of document 01, "The frame": parity, CRC, the twelve symbols of ten bytes, and the frame check.
+pub mod reason;
 mod words;
 
 use answer::Answer;
+use reason::Reason;
 ghost use mathlib.Core.Path.{_≡_};
+ghost use lib.ListN.{length};
 ghost use Rattle.frame.specs.Bits.{bits, oddOnes};
-ghost use Rattle.frame.specs.Check.{rightAt, someAbove, checkOf};
+ghost use Rattle.frame.specs.Check.{rightAt, someAbove};
 ghost use Rattle.frame.specs.Frame.{crcOf, dataOf, evenSymbol, oddSymbol, build as buildOf, crcRight};
+ghost use Rattle.frame.specs.Reason.{faultAt, reasonOf, checkedOf};
 
 // How many symbols a frame has.
 pub const SYMBOLS: usize = 12;
@@ -106,6 +110,16 @@ pub fn right_at(symbol: u16, place: usize) -> bool
     }
 }
 
+// What is wrong with a symbol that may not stand at its place. A mark counts first: what is under it is not known.
+fn fault_at(symbol: u16, place: u8) -> Reason
+    ensures { λ r. ⌜ r ≡ faultAt place symbol ⌝ }
+{
+    if MARKED <= symbol {
+        return Reason::Marked(place);
+    }
+    Reason::Parity(place)
+}
+
 // Whether a list holds a number that is no received symbol.
 pub fn some_above(list: &[u16]) -> bool
     ensures { λ r. ⌜ r ≡ someAbove (now (list .entry)) ⌝ }
@@ -120,16 +134,42 @@ pub fn some_above(list: &[u16]) -> bool
     false
 }
 
-// The frame check. Its answers are 7, 5, 9 and 0, in that order of tests.
-pub fn check(list: &[u16]) -> Answer
-    ensures { λ r. ⌜ r ≡ checkOf (now (list .entry)) ⌝ }
+// What the frame check gives: its answer, and the reason for it, Nothing where the list was not looked at.
+pub struct Checked {
+    pub answer: Answer,
+    pub reason: Reason,
+}
+
+// The frame check. Its answers are 7, 5, 9 and 0, in that order of tests. With 9 goes the first fault.
+pub fn check(list: &[u16]) -> Checked
+    ensures { λ r. ⌜ r ≡ checkedOf (now (list .entry)) ⌝ }
 {
     if list.len() != SYMBOLS {
-        return Answer::BadLength;
+        return Checked {
+            answer: Answer::BadLength,
+            reason: Reason::Nothing,
+        };
     }
     if some_above(list) {
-        return Answer::BadSymbol;
+        return Checked {
+            answer: Answer::BadSymbol,
+            reason: Reason::Nothing,
+        };
     }
+    let reason = reason_of(list);
+    let answer = if reason::is_accepted(reason) {
+        Answer::Done
+    } else {
+        Answer::NotAcceptable
+    };
+    Checked { answer, reason }
+}
+
+// Of twelve symbols: the first fault; if there is none, what the CRC says.
+fn reason_of(list: &[u16]) -> Reason
+    requires { ⌜ length (now list) ≡ 12 ⌝ }
+    ensures { λ r. ⌜ r ≡ reasonOf (now (list .entry)) ⌝ }
+{
     let mut symbols = [0u16; 12];
     let mut i = 0;
     while i < SYMBOLS {
@@ -138,12 +178,12 @@ pub fn check(list: &[u16]) -> Answer
             symbols[i] = symbol;
             i += 1;
         } else {
-            return Answer::NotAcceptable;
+            return fault_at(symbol, i as u8);
         }
     }
     if crc_right(symbols) {
-        Answer::Done
+        Reason::Accepted
     } else {
-        Answer::NotAcceptable
+        Reason::Crc
     }
 }

@@ -21,6 +21,7 @@ use Rattle.end.specs.declared.End.{End}
 use Rattle.end.specs.declared.Got.{Got}
 use Rattle.end.specs.declared.Next.{Next}
 use Rattle.end.specs.declared.Sent.{Sent}
+use Rattle.end.specs.declared.Taken.{Taken}
 use Rattle.end.specs.Good.{bad}
 use Rattle.end.specs.Sending.{sendOf}
 use Rattle.end.specs.Taking.{takeOf}
@@ -54,6 +55,9 @@ sent s = numberOf (s .answer)
 got : Got → ℕ
 got g = numberOf (g .answer)
 
+took : Taken → ℕ
+took t = numberOf (t .answer)
+
 next : Next → ℕ
 next n = numberOf (n .answer)
 
@@ -62,8 +66,8 @@ unfolding sendOf sent
 send-not e = never sent (bad e) (λ h. omega arith) (λ h. omega arith)
 
 take-not : (s : ℕ) (e : End) → ¬ (numberOf (takeOf e s .answer) ≡ 11)
-unfolding takeOf next
-take-not s e = never next (bad e) (λ h. omega arith) (never next (ltb 1023 s) (λ h. omega arith) (λ h. omega arith))
+unfolding takeOf took
+take-not s e = never took (bad e) (λ h. omega arith) (never took (ltb 1023 s) (λ h. omega arith) (λ h. omega arith))
 
 read-not : (r : ℕ) (e : End) → ¬ (numberOf (readOf e r .answer) ≡ 11)
 unfolding readOf got
@@ -87,7 +91,7 @@ refuses send = record { not-11 = send-not; one-met = λ e. send-1 e .0; left = s
 refuses (take s) = record {
   not-11 = take-not s;
   one-met = λ e. take-1 e s .0;
-  left = λ e h. (refl, take-refused e s h);
+  left = λ e h. (refl, take-refused e s h .1);
 }
 refuses (read r) = record { not-11 = read-not r; one-met = λ e. read-1 e r .0; left = λ e. read-refused e r }
 refuses (write r v k) = record {

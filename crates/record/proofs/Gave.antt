@@ -3,21 +3,27 @@
 --   good-length    a record that is not refused has the right length
 --   gave-bad       what a call on a refused record gives
 --   gave-done      what a call on any other record gives
+--   told-*         what a take that says why gives; take-reply, that its answer is all that a plain take has to say
 --   reset-*        what reset gives
 -- Assumes nothing.
 use Prim.Native.Nat.{ℕ, _+_, _*_}
-use mathlib.Core.Bool.{Bool, true, false, true≢false}
+use mathlib.Core.Bool.{Bool, true, false, cond, true≢false}
 use mathlib.Core.List.{List}
 use mathlib.Core.Path.{_≡_, refl, sym, ap, _∙_}
 use lib.Dec.{eqb}
 use lib.ListN.{length, drop}
 use borrow.Author.Tests.{eq-eqb, ne-eqb, eqb-true, eqb-false}
-use Rattle.answer.specs.declared.Answer.the-variants.{Done}
+use Rattle.answer.specs.declared.Answer.{Answer}
+use Rattle.answer.specs.declared.Answer.the-variants.{Done, BadRecord}
+use Rattle.frame.specs.declared.reason.Reason.the-variants.{Nothing}
 use Rattle.end.specs.declared.End.{End}
+use Rattle.end.specs.declared.Taken.{Taken}
 use Rattle.end.specs.Good.{resetOf}
+use Rattle.end.specs.Taking.{takeOf}
 use Rattle.record.specs.declared.Reply.{Reply}
 use Rattle.record.specs.Record.{size, version, at, exceeds, refusedBy, refused, recordOf, endOf}
-use Rattle.record.specs.Calls.{Result, badReply, stored, through, resetting}
+use Rattle.record.specs.Calls.{Result, badReply, badRecord, stored, through, resetting}
+use Rattle.record.specs.Calls.{taking, reasonThrough, toldBy}
 
 pub refused-length : (n v : ℕ) (m r : List ℕ) → ¬ (length r ≡ n) → true ≡ refusedBy n v m r
 unfolding refusedBy
@@ -62,6 +68,33 @@ unfolding through
 gave-done f r x {t} {p} {b} h g e q s =
     let good-r : refused r ≡ false = sym h ∙ g in
     (q ∙ (ap (λ (y : Result). stored y .reply) e ∙ rw good-r), s ∙ (ap (λ (y : Result). stored y .bytes) e ∙ rw good-r))
+
+pub told-bad : (s : ℕ) (r : List ℕ) {t : Bool} → t ≡ refused r → t ≡ true
+    → (record { answer = BadRecord; reason = Nothing } ≡ toldBy s r) × (r ≡ through (taking s) r .bytes)
+unfolding through reasonThrough
+told-bad s r {t} h b =
+    let refused-r : refused r ≡ true = sym h ∙ b in
+    (rw refused-r, rw refused-r)
+
+pub told-done : (s : ℕ) (r : List ℕ) (x : Taken) {t : Bool} {b : List ℕ} → t ≡ refused r → t ≡ false
+    → x ≡ takeOf (endOf r) s → b ≡ recordOf (x .end)
+    → (record { answer = x .answer; reason = x .reason } ≡ toldBy s r) × (b ≡ through (taking s) r .bytes)
+unfolding through reasonThrough
+told-done s r x {t} {b} h g e q =
+    let good-r : refused r ≡ false = sym h ∙ g in (
+      rw good-r (ap (λ (y : Taken). record { answer = y .answer; reason = y .reason }) e),
+      q ∙ (ap (λ (y : Taken). recordOf (y .end)) e ∙ rw good-r),
+    )
+
+pub take-reply : (s : ℕ) (r : List ℕ) {a : Answer} → a ≡ through (taking s) r .reply .answer
+    → record { answer = a; value = 0 } ≡ through (taking s) r .reply
+unfolding through
+take-reply s r {a} = go (refused r)
+  where
+    go : (b : Bool) → a ≡ cond b (badRecord r) (stored (taking s (endOf r))) .reply .answer
+        → record { answer = a; value = 0 } ≡ cond b (badRecord r) (stored (taking s (endOf r))) .reply
+    go true e = ap (λ (x : Answer). record { answer = x; value = 0 }) e
+    go false e = ap (λ (x : Answer). record { answer = x; value = 0 }) e
 
 pub reset-bad : (r : List ℕ) {p : Reply} → ¬ (length r ≡ size) → p ≡ badReply
     → (p ≡ resetting r .reply) × (r ≡ resetting r .bytes)

@@ -5,6 +5,7 @@ use mathlib.Core.Path.{_≡_, sym, _∙_}
 use Rattle.record.proofs.reset.Reads as reset
 use Rattle.record.proofs.send.Reads as send
 use Rattle.record.proofs.take.Reads as take
+use Rattle.record.proofs.take_reason.Reads as take-reason
 use Rattle.record.proofs.read.Reads as read
 use Rattle.record.proofs.write.Reads as write
 use Rattle.record.proofs.set_health.Reads as set-health
@@ -22,6 +23,9 @@ send-identical κs a x y s t e f = e .0 ∙ sym (f .0)
 
 pub take-identical : Same take.Post
 take-identical κs a x y s t e f = e .0 ∙ sym (f .0)
+
+pub take-reason-identical : Same take-reason.Post
+take-reason-identical κs a x y s t e f = e .0 ∙ sym (f .0)
 
 pub read-identical : Same read.Post
 read-identical κs a x y s t e f = e .0 ∙ sym (f .0)

@@ -4,9 +4,11 @@
 --                      record cut short in the last field would too)
 --   through-end        a call on the record of an end: the call's answer and value, and the record of its next end
 --   CALL-record        the same call by call, in document 01's own definitions; present-leaves, present changes no byte
+--   reason-record, reason-refused   a take that says why: what becomes of the collection; nothing where it is refused
 --   runs-same          any calls on the record of an end: the same replies, and the record of the end that they lead to
 --   runs-accepted, runs-refused   the same for any bytes, accepted or not
 --   reset-run          the same from reset, in an area with whatever bytes
+--   reset-reason       the reason then is that of the end that the calls lead to
 -- Assumes nothing.
 use Prim.Native.Nat.{ℕ}
 use mathlib.Core.Bool.{Bool, true, false, cond}
@@ -15,8 +17,10 @@ use mathlib.Core.Logic.{_↔_}
 use mathlib.Core.Path.{_≡_, refl, sym, ap, _∙_, subst}
 use lib.ListN.{length}
 use borrow.Author.Tests.{eq-eqb}
+use Rattle.answer.specs.Number.{numberOf}
 use Rattle.answer.specs.declared.Answer.{Answer}
 use Rattle.answer.specs.declared.Answer.the-variants.{Done}
+use Rattle.frame.specs.declared.reason.Reason.the-variants.{Nothing}
 use Rattle.end.specs.declared.End.{End}
 use Rattle.end.specs.Good.{bad, resetOf, presentOf}
 use Rattle.end.specs.Sending.{sendOf}
@@ -24,13 +28,15 @@ use Rattle.end.specs.Taking.{takeOf}
 use Rattle.end.specs.Registers.{readOf, writeOf, healthOf}
 use Rattle.endlaws.specs.Calls.{Call, send, take, read, write, health, present, after, calls, reached}
 use Rattle.endlaws.specs.Shape.{Shaped}
-use Rattle.endlaws.proofs.Goods.{after-good, reset-good}
+use Rattle.endlaws.proofs.Answers.{take-refused}
+use Rattle.endlaws.proofs.Goods.{after-good, reset-good, reached-good, reached-shaped}
 use Rattle.endlaws.proofs.Shapes.{after-shaped, reset-shaped}
 use Rattle.record.specs.declared.Reply.{Reply}
 use Rattle.record.specs.Record.{size, flag, recordOf, endOf, refused}
 use Rattle.record.specs.Calls.{Result, Called, through, stored, resetting, badReply, badRecord}
+use Rattle.record.specs.Calls.{reasonThrough, toldBy}
 use Rattle.record.specs.Calls.{sending, taking, reading, writing, settingHealth, presence}
-use Rattle.record.specs.Runs.{result, called, replies, bytes, told}
+use Rattle.record.specs.Runs.{result, replies, bytes, told}
 use Rattle.record.proofs.Accepted.{accepted-back, accepted-good, accepted-shape}
 use Rattle.record.proofs.Written.{read-back, written-accepted}
 
@@ -65,6 +71,21 @@ send-record r h = accepted-call sending r h
 pub take-record : (s : ℕ) (r : List ℕ) → refused r ≡ false
     → Gives (through (taking s) r) (takeOf (endOf r) s .answer) 0 (takeOf (endOf r) s .end)
 take-record s r h = accepted-call (taking s) r h
+
+pub reason-record : (s : ℕ) (r : List ℕ) → refused r ≡ false
+    → toldBy s r ≡ record { answer = takeOf (endOf r) s .answer; reason = takeOf (endOf r) s .reason }
+unfolding through reasonThrough
+reason-record s r h = rw h
+
+pub reason-refused : (s : ℕ) (r : List ℕ) → ¬ (numberOf (toldBy s r .answer) ≡ 0) → toldBy s r .reason ≡ Nothing
+unfolding through reasonThrough
+reason-refused s r = go (refused r)
+  where
+    go : (b : Bool)
+        → ¬ (numberOf (cond b (badRecord r) (stored (taking s (endOf r))) .reply .answer) ≡ 0)
+        → cond b Nothing (takeOf (endOf r) s .reason) ≡ Nothing
+    go true n = refl
+    go false n = take-refused (endOf r) s n .0
 
 pub read-record : (n : ℕ) (r : List ℕ) → refused r ≡ false
     → Gives (through (reading n) r) (readOf (endOf r) n .answer) (readOf (endOf r) n .value) (readOf (endOf r) n .end)
@@ -140,3 +161,10 @@ pub reset-run : (cs : List Call) (r : List ℕ) → length r ≡ size
     → (replies cs (resetting r .bytes) ≡ told cs resetOf) × (bytes cs (resetting r .bytes) ≡ recordOf (reached cs))
 unfolding resetting reached
 reset-run cs r h = rw (eq-eqb (length r) size h) (runs-same cs resetOf reset-shaped reset-good)
+
+pub reset-reason : (cs : List Call) (s : ℕ) (r : List ℕ) → length r ≡ size
+    → toldBy s (bytes cs (resetting r .bytes)) .reason ≡ takeOf (reached cs) s .reason
+unfolding reasonThrough
+reset-reason cs s r h =
+    rw (reset-run cs r h .1, written-accepted (reached cs) (reached-shaped cs) (reached-good cs))
+    (ap (λ (e : End). takeOf e s .reason) (read-back (reached cs) (reached-shaped cs)))

@@ -4,6 +4,9 @@
 --   sending, taking, reading, writing, settingHealth, presence   the calls of document 01 in that shape
 --   Called            what a call on a record gives: the reply, and every byte of the record after it
 --   through f r       the call f on the record r: answer 11 and the bytes as they were, or the call on its end
+--   reasonThrough s r   request #105: what becomes of the collection of the record r with the symbol s; nothing is said
+--                     of a record that is refused
+--   toldBy s r        that, with the answer of taking s
 --   resetting r       reset, which asks only for an area of the right size
 -- Assumes nothing.
 use Prim.Native.Nat.{ℕ}
@@ -13,6 +16,8 @@ use lib.Dec.{eqb}
 use lib.ListN.{length}
 use Rattle.answer.specs.declared.Answer.{Answer}
 use Rattle.answer.specs.declared.Answer.the-variants.{Done, BadRecord}
+use Rattle.frame.specs.declared.reason.Reason.{Reason}
+use Rattle.frame.specs.declared.reason.Reason.the-variants.{Nothing}
 use Rattle.end.specs.declared.End.{End}
 use Rattle.end.specs.declared.Next.{Next}
 use Rattle.end.specs.Good.{resetOf, presentOf}
@@ -20,6 +25,7 @@ use Rattle.end.specs.Sending.{sendOf}
 use Rattle.end.specs.Taking.{takeOf}
 use Rattle.end.specs.Registers.{readOf, writeOf, healthOf}
 use Rattle.record.specs.declared.Reply.{Reply}
+use Rattle.record.specs.declared.Told.{Told}
 use Rattle.record.specs.Record.{size, flag, recordOf, endOf, refused}
 
 pub record Result : Type 0 where
@@ -35,7 +41,7 @@ abbrev pub sending : End → Result
 sending e = record { answer = sendOf e .answer; value = sendOf e .symbol; end = sendOf e .end }
 
 abbrev pub taking : ℕ → End → Result
-taking s e = moved (takeOf e s)
+taking s e = record { answer = takeOf e s .answer; value = 0; end = takeOf e s .end }
 
 abbrev pub reading : ℕ → End → Result
 reading r e = record { answer = readOf e r .answer; value = readOf e r .value; end = readOf e r .end }
@@ -64,6 +70,12 @@ stored x = record { reply = record { answer = x .answer; value = x .value }; byt
 
 unfoldable pub through : (End → Result) → List ℕ → Called
 through f r = cond (refused r) (badRecord r) (stored (f (endOf r)))
+
+unfoldable pub reasonThrough : ℕ → List ℕ → Reason
+reasonThrough s r = cond (refused r) Nothing (takeOf (endOf r) s .reason)
+
+abbrev pub toldBy : ℕ → List ℕ → Told
+toldBy s r = record { answer = through (taking s) r .reply .answer; reason = reasonThrough s r }
 
 unfoldable pub resetting : List ℕ → Called
 resetting r =

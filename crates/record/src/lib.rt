@@ -7,13 +7,14 @@ mod writing;
 use answer::Answer;
 use end::End;
 use end::Next;
+use frame::reason::Reason;
 use reading::end_of;
 use refusing::refused;
 use writing::put_end;
 ghost use mathlib.Core.Path.{_≡_};
 ghost use lib.ListN.{length};
 ghost use Rattle.record.specs.Record.{size};
-ghost use Rattle.record.specs.Calls.{through, resetting, badReply, moved, stored};
+ghost use Rattle.record.specs.Calls.{through, toldBy, resetting, badReply, moved, stored};
 ghost use Rattle.record.specs.Calls.{sending, taking, reading, writing, settingHealth, presence};
 
 // How long a record is, and its version.
@@ -25,6 +26,12 @@ pub const VERSION: u8 = 1;
 pub struct Reply {
     pub answer: Answer,
     pub value: u16,
+}
+
+// What a take gives that says why: its answer, and what became of the collection.
+pub struct Told {
+    pub answer: Answer,
+    pub reason: Reason,
 }
 
 // Fills an area of the right size with the record of an end just reset. What was there does not matter.
@@ -67,12 +74,29 @@ pub fn take(area: &mut [u8], symbol: u16) -> Reply
     ensures { λ r. ⌜ r ≡ through (taking symbol) (now (area .entry)) .reply ⌝ }
     ensures { λ _. ⌜ now (area .exit) ≡ through (taking symbol) (now (area .entry)) .bytes ⌝ }
 {
+    let told = take_reason(area, symbol);
+    let answer = told.answer;
+    Reply { answer, value: 0 }
+}
+
+// The same take, and what became of the collection.
+pub fn take_reason(area: &mut [u8], symbol: u16) -> Told
+    ensures { λ r. ⌜ r ≡ toldBy symbol (now (area .entry)) ⌝ }
+    ensures { λ _. ⌜ now (area .exit) ≡ through (taking symbol) (now (area .entry)) .bytes ⌝ }
+{
     if refused(area) {
-        return bad_record();
+        return Told {
+            answer: Answer::BadRecord,
+            reason: Reason::Nothing,
+        };
     }
     let end = end_of(area);
-    let next = end.take(symbol);
-    put_next(area, next)
+    let taken = end.take(symbol);
+    let answer = taken.answer;
+    let reason = taken.reason;
+    let next = taken.end;
+    put_end(area, next);
+    Told { answer, reason }
 }
 
 // A register's value.
@@ -145,7 +169,7 @@ fn bad_record() -> Reply
     }
 }
 
-// What take, write and set health give. The end is written back whatever the answer is: a refused call gives the end
+// What write and set health give. The end is written back whatever the answer is: a refused call gives the end
 // that was read, and writing that one leaves every byte as it was.
 fn put_next(area: &mut [u8], next: Next) -> Reply
     requires { ⌜ length (now area) ≡ size ⌝ }

@@ -1,19 +1,25 @@
 -- Replies as C gets them, on the worked record of crate `record` with every bool true and on one byte changed.
 --   3.2308: pending, toggle, Received, received toggle, number 13, PingRx got, PingTx, health as loaded 2: FD0E
 --   3.2313: full, toggle, number 14, partner health 3: CE03
+-- And what a take says: on that record, whose collection has nine symbols, and on one with eleven of P1's frame.
 -- Assumes nothing.
 use Prim.Native.Nat.{ℕ}
-use mathlib.Core.Bool.{Bool, true}
-use mathlib.Core.List.{List}
+use mathlib.Core.Bool.{true}
+use mathlib.Core.List.{List, [], _∷_, _++_}
 use mathlib.Core.Path.{_≡_, refl}
-use lib.ListN.{set}
+use lib.ListN.{set, replicate}
+use Rattle.frame.specs.Bits.{bits, number, oddOnes}
+use Rattle.frame.specs.Crc.{crc}
+use Rattle.frame.specs.Frame.{generator, stream, crcOf, even, crcRight}
 use Rattle.end.specs.Good.{above, bad, presentOf}
 use Rattle.end.specs.Registers.{readOf, writeOf}
-use Rattle.record.specs.Record.{bodyOf, recordOf, endOf, exceeds, refusedBy}
-use Rattle.record.specs.Calls.{through, reading, writing, presence}
+use Rattle.end.specs.Taking.{takeOf}
+use Rattle.record.specs.Record.{bodyOf, endOf, exceeds, refusedBy}
+use Rattle.record.specs.Calls.{through, reading, writing, presence, reasonThrough, toldBy}
 use Rattle.record.specs.Cases.{laid}
-use Rattle.simhadol.specs.Numbered.{numbered}
+use Rattle.simhadol.specs.Numbered.{numbered, told}
 use Rattle.simhadol.specs.declared.SimhadolReply.{SimhadolReply}
+use Rattle.simhadol.specs.declared.SimhadolTaken.{SimhadolTaken}
 
 abbrev given : List ℕ
 given = laid (λ i. true)
@@ -44,3 +50,50 @@ read-only-bits = refl
 pub bool-of-two : numbered (through (reading 2308) (set given 78 2) .reply) ≡ reply 11 0
 unfolding through refusedBy exceeds bodyOf
 bool-of-two = refl
+
+abbrev taken : ℕ → ℕ → ℕ → SimhadolTaken
+taken a r n = record { answer = a; reason = r; symbols = n }
+
+-- symbol 0 is 000, symbols 1 to 10 are 100 hex, symbol 11 is still 0
+abbrev eleven : List ℕ
+eleven =
+    0 ∷ 92 ∷ 1 ∷ replicate 26 0 ++ (1 ∷ replicate 16 0) ++ (0 ∷ 0 ∷ 1 ∷ 0 ∷ 1 ∷ 0 ∷ 1 ∷ 0 ∷ 1 ∷ 0 ∷ 1 ∷ 0 ∷ [])
+    ++ (1 ∷ 0 ∷ 1 ∷ 0 ∷ 1 ∷ 0 ∷ 1 ∷ 0 ∷ 1 ∷ 0 ∷ 0 ∷ 0 ∷ 11 ∷ replicate 21 0)
+
+pub broken-by-mark : told (toldBy 0x200 given) ≡ taken 0 3 9
+unfolding through reasonThrough refusedBy exceeds bodyOf endOf takeOf bad above
+broken-by-mark = refl
+
+pub broken-by-even : told (toldBy 0x000 given) ≡ taken 0 4 9
+unfolding through reasonThrough refusedBy exceeds bodyOf endOf takeOf bad above even bits oddOnes
+broken-by-even = refl
+
+pub grown : told (toldBy 0x100 given) ≡ taken 0 0 0
+unfolding through reasonThrough refusedBy exceeds bodyOf endOf takeOf bad above even bits oddOnes
+grown = refl
+
+pub symbol-above : told (toldBy 0x400 given) ≡ taken 5 0 0
+unfolding through reasonThrough refusedBy exceeds bodyOf endOf takeOf bad above
+symbol-above = refl
+
+pub mark-refused : told (toldBy 0x200 (set given 78 2)) ≡ taken 11 0 0
+unfolding through reasonThrough refusedBy exceeds bodyOf
+mark-refused = refl
+
+pub eleven-and-mark : told (toldBy 0x200 eleven) ≡ taken 0 3 11
+unfolding through reasonThrough refusedBy exceeds bodyOf endOf takeOf bad above
+eleven-and-mark = refl
+
+pub eleven-and-even : told (toldBy 0x000 eleven) ≡ taken 0 4 11
+unfolding through reasonThrough refusedBy exceeds bodyOf endOf takeOf bad above even bits oddOnes
+eleven-and-even = refl
+
+pub frame-accepted : told (toldBy 0x100 eleven) ≡ taken 0 1 0
+unfolding through reasonThrough refusedBy exceeds bodyOf endOf takeOf bad above
+    even bits number oddOnes crc generator stream crcOf crcRight
+frame-accepted = refl
+
+pub frame-failed : told (toldBy 0x001 eleven) ≡ taken 0 2 0
+unfolding through reasonThrough refusedBy exceeds bodyOf endOf takeOf bad above
+    even bits number oddOnes crc generator stream crcOf crcRight
+frame-failed = refl

@@ -5,6 +5,7 @@ use Rattle.simhadol.proofs.simhadol_record_length.Reads as record-lengt
 use Rattle.simhadol.proofs.simhadol_reset.Reads as reset
 use Rattle.simhadol.proofs.simhadol_send.Reads as send
 use Rattle.simhadol.proofs.simhadol_take.Reads as take
+use Rattle.simhadol.proofs.simhadol_take_reason.Reads as take-reason
 use Rattle.simhadol.proofs.simhadol_read.Reads as read
 use Rattle.simhadol.proofs.simhadol_write.Reads as write
 use Rattle.simhadol.proofs.simhadol_set_health.Reads as set-health
@@ -21,6 +22,9 @@ send-identical κs a x y s t e f = e .0 ∙ sym (f .0)
 
 pub take-identical : Same take.Post
 take-identical κs a x y s t e f = e .0 ∙ sym (f .0)
+
+pub take-reason-identical : Same take-reason.Post
+take-reason-identical κs a x y s t e f = e .0 ∙ sym (f .0)
 
 pub read-identical : Same read.Post
 read-identical κs a x y s t e f = e .0 ∙ sym (f .0)

@@ -1,16 +1,26 @@
 // The calls that the C side makes, as include/simhadol.h declares them: those of crate `record`, with the answer as a
 // number.
 use record::Reply;
+use record::Told;
 ghost use mathlib.Core.Path.{_≡_};
 ghost use Rattle.record.specs.Record.{size};
 ghost use Rattle.record.specs.Calls.{resetting, through, sending, taking, reading, writing, settingHealth, presence};
-ghost use Rattle.simhadol.specs.Numbered.{numbered};
+ghost use Rattle.record.specs.Calls.{toldBy};
+ghost use Rattle.simhadol.specs.Numbered.{numbered, told};
 
 // An answer's number, and the symbol of a send, the value of a read, 1 for present; else 0.
 #[repr(C)]
 pub struct SimhadolReply {
     pub answer: u16,
     pub value: u16,
+}
+
+// An answer's number, that of what became of the collection, and how many symbols it had if it was broken; else 0.
+#[repr(C)]
+pub struct SimhadolTaken {
+    pub answer: u16,
+    pub reason: u16,
+    pub symbols: u16,
 }
 
 // How many bytes a record has.
@@ -49,6 +59,16 @@ pub extern "C" fn simhadol_take(area: &mut [u8], symbol: u16) -> SimhadolReply
 {
     let reply = record::take(area, symbol);
     numbered(reply)
+}
+
+// The same take, which also says what became of the collection.
+#[no_mangle]
+pub extern "C" fn simhadol_take_reason(area: &mut [u8], symbol: u16) -> SimhadolTaken
+    ensures { λ r. ⌜ r ≡ told (toldBy symbol (now (area .entry))) ⌝ }
+    ensures { λ _. ⌜ now (area .exit) ≡ through (taking symbol) (now (area .entry)) .bytes ⌝ }
+{
+    let taken = record::take_reason(area, symbol);
+    told(taken)
 }
 
 // The value of the register of that number.
@@ -99,6 +119,19 @@ fn numbered(reply: Reply) -> SimhadolReply
     SimhadolReply {
         answer: wide(number),
         value: reply.value,
+    }
+}
+
+// What a take said, as C reads it.
+fn told(taken: Told) -> SimhadolTaken
+    ensures { λ r. ⌜ r ≡ told taken ⌝ }
+{
+    let answer = taken.answer;
+    let reason = taken.reason;
+    SimhadolTaken {
+        answer: wide(answer::number(answer)),
+        reason: wide(frame::reason::number(reason)),
+        symbols: wide(frame::reason::place(reason)),
     }
 }
 

@@ -30,7 +30,9 @@ pub extern "C" fn simhadol_build(bytes: &[u8; 10], symbols: &mut [u16; 12])
 pub extern "C" fn simhadol_check(list: &[u16]) -> u8
     ensures { λ r. ⌜ r ≡ numberOf (checkOf (now (list .entry))) ⌝ }
 {
-    answer::number(frame::check(list))
+    let checked = frame::check(list);
+    let answer = checked.answer;
+    answer::number(answer)
 }
 
 // The finder's answer number.

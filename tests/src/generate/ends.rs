@@ -40,15 +40,17 @@ impl Writer {
     fn feed_frame(&mut self, side: usize) {
         let mut list = build(&self.telling_bytes(side)).to_vec();
         let place = self.random.below(SYMBOLS);
-        match self.random.below(10) {
+        match self.random.below(12) {
             0 => {
                 let count = 1 + self.random.below(4);
                 flip(&mut list, count, &mut self.random);
             }
-            1 => list[place] |= MARK,
-            2 => list.truncate(place),
-            3 => drop(list.remove(place)),
-            4 => list.insert(place, self.random.word(1100)),
+            1 | 2 => list[place] |= MARK,
+            // Right parities, wrong CRC.
+            3 => flip(&mut list[place..=place], 2, &mut self.random),
+            4 => list.truncate(place),
+            5 => drop(list.remove(place)),
+            6 => list.insert(place, self.random.word(1100)),
             _ => {}
         }
         for symbol in list {

@@ -43,17 +43,23 @@ pub fn data_bytes(random: &mut Random) -> [u8; DATA] {
 fn damaged_list(random: &mut Random) -> Vec<u16> {
     let mut list = build(&data_bytes(random)).to_vec();
     let place = random.below(SYMBOLS);
-    match random.below(12) {
+    match random.below(14) {
         0 | 1 => {}
-        2..=4 => flip(&mut list, 1 + random.below(6), random),
+        2 | 3 => flip(&mut list, 1 + random.below(6), random),
+        4 => flip(&mut list[place..=place], 1, random),
         5 => list[place] |= MARK,
-        6 => list[place] = random.of(&[1023, 1024, 0x8000 | list[place], 0x400 | list[place], 65535]),
-        7 => list[place] = random.word(2048),
-        8 => list.truncate(random.below(SYMBOLS)),
-        9 => (0..1 + random.below(2)).for_each(|_| list.push(random.word(1030))),
-        10 => list.swap(10, 11),
+        // A mark and a wrong bit, the one lower or the other, or both in one symbol.
+        6 | 7 => {
+            list[place] |= MARK;
+            flip(&mut list, 1, random);
+        }
+        8 => list[place] = random.of(&[1023, 1024, 0x8000 | list[place], 0x400 | list[place], 65535]),
+        9 => list[place] = random.word(2048),
+        10 => list.truncate(random.below(SYMBOLS)),
+        11 => (0..1 + random.below(2)).for_each(|_| list.push(random.word(1030))),
+        12 => list.swap(10, 11),
         // Right parities, wrong CRC.
-        _ => list[1 + place % 11] ^= 3 << random.below(8),
+        _ => flip(&mut list[place..=place], 2, random),
     }
     list
 }

@@ -12,7 +12,7 @@ pub use finder::{captures, noise, NOISES};
 pub use frames::{data_bytes, frames};
 pub use lines::lines;
 pub use links::links;
-pub use records::{about_to_accept, any_call, any_good_end, damaged, wander};
+pub use records::{about_to_end, any_call, any_good_end, damaged, wander};
 
 use crate::random::Random;
 use crate::script::Script;

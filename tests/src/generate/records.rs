@@ -3,7 +3,7 @@
 use super::ends::{control_value, good_limit, telling_bytes};
 use crate::end::End;
 use crate::fields::fields;
-use crate::frame::{build, SYMBOLS};
+use crate::frame::{build, MARK, SYMBOLS};
 use crate::random::Random;
 use crate::record::Call;
 use crate::registers::TX_CONTROL;
@@ -57,14 +57,26 @@ pub fn any_good_end(random: &mut Random) -> End {
     end
 }
 
-/// An end that has collected eleven symbols of a frame, and the call that takes its twelfth.
-pub fn about_to_accept(random: &mut Random) -> (End, Call) {
+/// An end that has collected symbols of a frame, often all but the last, and the call that takes the next: the right
+/// one, one that breaks the collection, or a wrong one of right parity.
+pub fn about_to_end(random: &mut Random) -> (End, Call) {
     let mut end = any_good_end(random);
     let frame = build(&telling_bytes(&end, random));
-    let last = SYMBOLS - 1;
-    end.rx[..last].copy_from_slice(&frame[..last]);
-    end.count = last as u8;
-    (end, Call::Take(frame[last]))
+    let (last, any) = (SYMBOLS - 1, 1 + random.below(SYMBOLS - 1));
+    let count = random.of(&[last, any, any]);
+    end.rx[..count].copy_from_slice(&frame[..count]);
+    end.count = count as u8;
+    let next = frame[count];
+    let symbol = random.of(&[next, next, next | MARK, next ^ 1, next ^ 3]);
+    (end, taking(symbol, random))
+}
+
+fn taking(symbol: u16, random: &mut Random) -> Call {
+    if random.bool() {
+        Call::Take(symbol)
+    } else {
+        Call::TakeReason(symbol)
+    }
 }
 
 /// One to four bytes changed.
@@ -87,7 +99,7 @@ pub fn any_call(random: &mut Random) -> Call {
     match random.below(12) {
         0 => Call::Reset,
         1 | 2 => Call::Send,
-        3 | 4 => Call::Take(symbol),
+        3 | 4 => taking(symbol, random),
         5 | 6 => Call::Read(register),
         7..=9 if register == TX_CONTROL => Call::Write(register, control_value(random)),
         7..=9 => Call::Write(register, random.word(65536)),

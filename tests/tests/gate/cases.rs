@@ -1,12 +1,12 @@
-//! Document 01, "Numbers on the bench", and other lines of the page, and document 02, #101 and #102: what is expected is
-//! written from the pages.
+//! Document 01, "Numbers on the bench", and other lines of the page, and document 02, #101, #102 and #105: what is
+//! expected is written from the pages.
 
 use crate::proved_prints;
 use second::console;
 
 /// A name after `#`, then lines `command > what is printed`. Lines with `//` tell of the file itself.
 const CASES: &str = include_str!("cases.txt");
-const CASES_IN_THE_FILE: usize = 37;
+const CASES_IN_THE_FILE: usize = 47;
 
 /// Where answer 1 begins: each field with its largest good value and the next.
 const LIMITS: &[(&str, &str, &str)] = &[
@@ -23,8 +23,10 @@ const LIMITS: &[(&str, &str, &str)] = &[
     ("rx_number", "F", "10"),
 ];
 
-/// Answer 1 comes before every other, and presence says no.
+/// Answer 1 comes before every other, and presence says no. The count's largest value is a collection, which a marked
+/// symbol breaks.
 fn limit_case(field: &str, good: &str, bad: &str) -> String {
+    let marked = if field == "count" { "0 marked 11" } else { "0" };
     format!(
         "a reset > 0
          a set present 1 > ok
@@ -50,7 +52,7 @@ fn limit_case(field: &str, good: &str, bad: &str) -> String {
          a write 2308 70FB > 10
          a take 400 > 5
          a health 4 > 6
-         a take 200 > 0
+         a take 200 > {marked}
          a health 0 > 0"
     )
 }

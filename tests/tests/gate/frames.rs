@@ -20,7 +20,7 @@ fn built_is_accepted() {
     let count = 100_000;
     for _ in 0..count {
         let data = data_bytes(&mut random);
-        assert_eq!(check(&build(&data)), Answer::Done, "{:?}", data);
+        assert_eq!(check(&build(&data)), (Answer::Done, None), "{:?}", data);
     }
     tell("frames, built is accepted", count, "frames", start);
 }

@@ -1,5 +1,5 @@
 //! The proved program and the calls from C against the second implementation, and all against document 01 with document
-//! 02's requests #101, #102 and #104.
+//! 02's requests #101, #102, #104 and #105.
 //!
 //! SIMHADOL_BENCH names the program, SIMHADOL_C the folder of the C programs, SIMHADOL_SEED the first seed.
 
@@ -10,11 +10,14 @@ mod demand3;
 mod ends;
 mod faults;
 mod finder;
+mod first_fault;
 mod frames;
 mod layout;
 mod links;
 mod programs;
 mod read_only_bits;
+mod reason_runs;
+mod reasons;
 mod record_runs;
 mod records;
 mod vectors;

@@ -1,6 +1,6 @@
-//! The C programs as they are, and the driver's other ways to lay an area: document 02, #104.
+//! The C programs as they are, and the driver's other ways to lay an area: document 02, #104 and #105.
 
-use crate::records::{every_answer_was_given, every_length, some_random_calls};
+use crate::records::{every_answer_was_given, every_length, every_reason_was_given, some_random_calls};
 use crate::{say, seed, tell};
 use second::end::End;
 use second::programs::{has_valgrind, program, under_valgrind};
@@ -37,7 +37,7 @@ fn tile_plays_the_freeze() {
 #[test]
 fn tests_from_c_pass() {
     let text = printed("calls", &run(program("calls"), ""));
-    assert!(text.ends_with("\n18 tests, 0 failed\n"), "{}", text);
+    assert!(text.ends_with("\n25 tests, 0 failed\n"), "{}", text);
 }
 
 #[test]
@@ -117,6 +117,7 @@ fn hold_beyond(name: &str, driver: impl Fn() -> Command) {
     let start = Instant::now();
     let (lengths, random) = (every_length(1), some_random_calls(20_000));
     every_answer_was_given(&random, 10);
+    every_reason_was_given(&random, 1);
     for calls in [&lengths, &random] {
         calls.compare(driver()).unwrap_or_else(|why| panic!("{}: seed {}, {}", name, seed(), why));
     }
@@ -142,6 +143,7 @@ fn driver_names_what_it_cannot_read() {
         "a take -1\n",
         "a take 65536\n",
         "a take 1 2\n",
+        "a reason\n",
         "a write 1\n",
         "a send",
         "length 1\n",

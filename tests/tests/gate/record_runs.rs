@@ -3,12 +3,11 @@
 use crate::layout::{spelled_out, LENGTH};
 use crate::records::{compare_when, random_bytes};
 use crate::{seed, tell};
-use second::answer::Answer;
 use second::calls::Calls;
 use second::end::End;
 use second::generate::any_call;
 use second::random::Random;
-use second::record::Call;
+use second::record::{Call, Reply};
 use std::time::Instant;
 
 /// The two ends, held as ends, and the calls on their records.
@@ -22,7 +21,7 @@ struct Joined {
 
 impl Joined {
     /// The call on the end itself says what the record must become: no record is read for it.
-    fn call(&mut self, side: usize, call: Call) -> (Answer, u16) {
+    fn call(&mut self, side: usize, call: Call) -> Reply {
         let reply = call.on_end(&mut self.ends[side]);
         let after = spelled_out(&self.ends[side]);
         self.calls.expect(side, call, reply, after);
@@ -34,7 +33,9 @@ impl Joined {
         for side in 0..2 {
             let mark = u16::from(lossy && self.random.one_in(30));
             self.marked += usize::from(mark);
-            self.call(side, Call::Take(sent[1 - side] + 512 * mark));
+            let symbol = sent[1 - side] + 512 * mark;
+            let call = if self.random.bool() { Call::Take(symbol) } else { Call::TakeReason(symbol) };
+            self.call(side, call);
         }
     }
 
@@ -102,6 +103,9 @@ fn long_runs() {
         compare_when(true, "records, long runs", &mut joined.calls);
     }
     assert!(joined.taken > 2_000 && joined.marked > 500, "{} taken, {} marked", joined.taken, joined.marked);
+    let told = |number| joined.calls.reasons.iter().filter(|((reason, _), _)| *reason == number).map(|(_, n)| n).sum();
+    let (accepted, broken): (usize, usize) = (told(1), told(3));
+    assert!(accepted > 2_000 && broken > 100, "{} accepted, {} broken by a mark", accepted, broken);
     let what = format!("calls with {} messages taken", joined.taken);
     tell("records, long runs", joined.calls.count(), &what, start);
 }

@@ -1,13 +1,14 @@
-//! The calls from C on records, through `tests/c/driver.c`, against the second implementation: document 02, #104.
+//! The calls from C on records, through `tests/c/driver.c`, against the second implementation: document 02, #104, and
+//! #105's reason.
 //!
-//! After every call answer, value and all bytes are compared, and the guard bytes beside them are untouched.
+//! After every call answer, value or reason, and all bytes are compared; the guard bytes beside them are untouched.
 
 use crate::layout::{is_record, LENGTH};
 use crate::{seed, tell};
 use second::answer::Answer;
 use second::calls::Calls;
 use second::end::End;
-use second::generate::{about_to_accept, any_call, any_good_end, damaged, wander};
+use second::generate::{about_to_end, any_call, any_good_end, damaged, wander};
 use second::programs::program;
 use second::random::Random;
 use second::record::{record_of, Call};
@@ -18,18 +19,22 @@ use std::time::Instant;
 const LONGEST: usize = 300;
 
 /// Every call, refused or done. The last are those that answer 11 comes before.
-const EVERY_CALL: [Call; 16] = [
+const EVERY_CALL: [Call; 20] = [
     Call::Present,
     Call::Send,
     Call::Take(0),
     Call::Take(0x100),
     Call::Take(1023),
+    Call::TakeReason(0),
+    Call::TakeReason(0x100),
+    Call::TakeReason(1023),
     Call::Read(2308),
     Call::Read(2317),
     Call::Write(2308, 0x8504),
     Call::Write(2309, 0x2211),
     Call::SetHealth(3),
     Call::Take(1024),
+    Call::TakeReason(1024),
     Call::Read(2307),
     Call::Write(2318, 0),
     Call::Write(2313, 0),
@@ -38,10 +43,11 @@ const EVERY_CALL: [Call; 16] = [
 ];
 
 /// The answers that each call can give.
-const ANSWERS: [(&str, &[u8]); 7] = [
+const ANSWERS: [(&str, &[u8]); 8] = [
     ("reset", &[0, 11]),
     ("send", &[0, 11]),
     ("take", &[0, 5, 11]),
+    ("reason", &[0, 5, 11]),
     ("read", &[0, 2, 11]),
     ("write", &[0, 2, 3, 4, 10, 11]),
     ("health", &[0, 6, 11]),
@@ -62,7 +68,7 @@ pub fn compare_when(last: bool, name: &str, calls: &mut Calls) {
 fn call_on(calls: &mut Calls, area: &[u8], call: Call) {
     calls.lay(0, area);
     let wanted = if call == Call::Reset { area.len() != LENGTH } else { !is_record(area) };
-    let (answer, _) = calls.call(0, call);
+    let (answer, ..) = calls.call(0, call);
     assert_eq!(answer == Answer::BadRecord, wanted, "{} on {:02X?}", call, area);
 }
 
@@ -70,19 +76,19 @@ pub fn random_bytes(random: &mut Random, length: usize) -> Vec<u8> {
     (0..length).map(|_| random.byte()).collect()
 }
 
-/// An area and the first call on it: the record of an end that goes on from area to area, any other good one, one about
-/// to accept a frame, a damaged one, or random bytes.
+/// An area and the first call on it: the record of an end that goes on from area to area, any other good one, one whose
+/// collection is about to end, a damaged one, or random bytes.
 fn random_area(end: &mut End, random: &mut Random) -> (Vec<u8>, Call) {
     wander(end, random);
     let (mut area, mut call) = (record_of(end), any_call(random));
-    match random.below(8) {
+    match random.below(9) {
         0 | 1 => {}
         2 | 3 => area = record_of(&any_good_end(random)),
-        4 => {
-            let (end, taking) = about_to_accept(random);
+        4 | 5 => {
+            let (end, taking) = about_to_end(random);
             (area, call) = (record_of(&end), taking);
         }
-        5 | 6 => area = damaged(&area, random),
+        6 | 7 => area = damaged(&area, random),
         _ => {
             let length = random.of(&[LENGTH, LENGTH, LENGTH - 1, LENGTH + 1, 0]);
             area = random_bytes(random, length);
@@ -114,6 +120,7 @@ fn random_calls() {
     }
     compare_when(true, "records, random", &mut calls);
     every_answer_was_given(&calls, 100);
+    every_reason_was_given(&calls, 100);
     tell("records, random", calls.count(), "calls", start);
 }
 
@@ -140,6 +147,16 @@ pub fn every_answer_was_given(calls: &Calls, least: usize) {
     }
 }
 
+/// Each reason was given at least so many times, broken collections with each number of symbols, and no other.
+pub fn every_reason_was_given(calls: &Calls, least: usize) {
+    let broken = [3, 4].into_iter().flat_map(|reason| (1..=11).map(move |symbols| (reason, symbols)));
+    let wanted: Vec<(u16, u16)> = [(0, 0), (1, 0), (2, 0)].into_iter().chain(broken).collect();
+    assert_eq!(calls.reasons.keys().copied().collect::<Vec<_>>(), wanted);
+    for ((reason, symbols), count) in &calls.reasons {
+        assert!(*count >= least, "reason {} with {} symbols was given only {} times", reason, symbols, count);
+    }
+}
+
 /// Each value of each of the 92 bytes, met by each call.
 #[test]
 fn every_byte() {
@@ -161,7 +178,7 @@ fn every_byte() {
         }
     }
     compare_when(true, "records, every byte", &mut calls);
-    assert_eq!(calls.count(), 92 * 256 * 17);
+    assert_eq!(calls.count(), 92 * 256 * 21);
     tell("records, every byte", calls.count(), "calls", start);
 }
 
@@ -209,7 +226,7 @@ pub fn every_length(rounds: usize) -> Calls {
     }
     for call in EVERY_CALL.into_iter().chain([Call::Reset]) {
         calls.lay_null(1);
-        assert_eq!(calls.call(1, call), (Answer::BadRecord, 0));
+        assert_eq!(calls.call(1, call), (Answer::BadRecord, 0, 0));
     }
     calls
 }

@@ -1,57 +1,22 @@
--- `take` meets its contract: it is refused, or the call on the end that was read.
+-- `take` meets its contract: it is the take that says why, without the reason.
 -- Assumes nothing.
-use mathlib.Core.Path.{refl, ap, _∙_}
-use Rattle.end.specs.declared.Next.{Next}
-use Rattle.record.specs.Calls.{Result, taking, moved}
-use Rattle.record.proofs.Gave.{good-length, gave-bad, gave-done}
+use mathlib.Core.Path.{ap}
+use Rattle.record.specs.declared.Told.{Told}
+use Rattle.record.proofs.Gave.{take-reply}
 use borrow.Author.Needs.{needs}
 use Rattle.record.proofs.take.Statement.{statement}
 use Rattle.record.proofs.take.Tie as tie
 
-refused-requires : tie.Need-refused-requires
-refused-requires c κs = search needs
-
-bad-record-requires : tie.Need-bad-record-requires
-bad-record-requires c κs = search needs
+take-reason-requires : tie.Need-take-reason-requires
+take-reason-requires c κs = search needs
 
 same-length : tie.Need-same-length
 same-length c = search needs
 
 returns : tie.Need-returns
-returns c = gave-bad _ _ (c .before .before .refused .ensures) (c .before .if1 .taken) (c .bad-record .ensures)
-
-end-of-requires : tie.Need-end-of-requires
-end-of-requires c κs = good-length _ (c .before .before .refused .ensures) (c .before .if1 .left)
-
-take-requires : tie.Need-take-requires
-take-requires c κs = search needs
-
-put-next-requires : tie.Need-put-next-requires
-put-next-requires c κs =
-    let t = c .before .before .before .before in
-    good-length _ (t .before .refused .ensures) (t .if1 .left)
-
-same-length-2 : tie.Need-same-length-2
-same-length-2 c = search needs
-
-returns-2 : tie.Need-returns-2
-returns-2 c =
-    let p = c .before .before in
-    let e = p .before .before in
-    let t = e .before .before .before in
-    let next = ap moved (e .take .ensures) ∙ ap (taking _) (e .before .end-of .ensures) in
-    gave-done (taking _) _ _ (t .before .refused .ensures) (t .if1 .left) next (p .put-next .ensures .0) (p .put-next .ensures .1)
+returns c =
+    let t = c .before .before in
+    (take-reply _ _ (ap (λ (x : Told). x .answer) (t .take-reason .ensures .0)), t .take-reason .ensures .1)
 
 pub take-spec : {M : Type 1} → statement M
-take-spec =
-    tie.close
-    (tie.spec
-    refused-requires
-    bad-record-requires
-    same-length
-    returns
-    end-of-requires
-    take-requires
-    put-next-requires
-    same-length-2
-    returns-2)
+take-spec = tie.close (tie.spec take-reason-requires same-length returns)

@@ -1,7 +1,10 @@
--- `taking::taken` meets its contract. The steps in their order. Assumes nothing.
+-- `taking::taken` meets its contract. The steps in their order; that the reason is accepted is step 3's test.
+-- Assumes nothing.
+use mathlib.Core.Path.{ap, _∙_}
 use borrow.Author.Needs.{needs}
+use Rattle.frame.specs.Reason.{isAccepted}
 use Rattle.end.specs.Taking.{taken}
-use Rattle.end.proofs.Laws.{good}
+use Rattle.end.proofs.Laws.{good, accepts-reason}
 use Rattle.end.proofs.taking.taken.Statement.{statement}
 use Rattle.end.proofs.taking.taken.Tie as tie
 
@@ -11,8 +14,11 @@ settle-requires c κs = search needs
 collect-requires : tie.Need-collect-requires
 collect-requires c κs = good _ (c .before .before .before .pre) .count
 
-accept-requires : tie.Need-accept-requires
-accept-requires c κs = search needs
+reason-of-requires : tie.Need-reason-of-requires
+reason-of-requires c κs = search needs
+
+is-accepted-requires : tie.Need-is-accepted-requires
+is-accepted-requires c κs = search needs
 
 hear-requires : tie.Need-hear-requires
 hear-requires c κs = search needs
@@ -23,10 +29,15 @@ enter-requires c κs = search needs
 returns : tie.Need-returns
 unfolding taken
 returns c =
-    let a = c .before .before in
-    let s = c .before .before .before .before in
     let h = c .before in
-    rw (c .enter .ensures, h .hear .ensures, a .accept .ensures, s .collect .ensures, s .before .settle .ensures)
+    let a = h .before in
+    let r = a .before in
+    let s = r .before .before in
+    let x = s .before .before .before .before .args in
+    let step = accepts-reason (x .symbol) (x .end .collector .count) (s .collect .result .symbols) in
+    let accepted = a .is-accepted .ensures ∙ ap isAccepted (r .reason-of .ensures) ∙ step in
+    rw (c .enter .ensures, h .hear .ensures, accepted, r .reason-of .ensures, s .collect .ensures)
+    (rw (s .before .settle .ensures))
 
 pub taken-spec : {M : Type 1} → statement M
 taken-spec =
@@ -34,7 +45,8 @@ taken-spec =
     (tie.spec
     settle-requires
     collect-requires
-    accept-requires
+    reason-of-requires
+    is-accepted-requires
     hear-requires
     enter-requires
     returns)

@@ -22,25 +22,31 @@
  * A record may be copied, stored and restored by plain copying. It is a string of bytes with no padding, its numbers of
  * two bytes have the high byte first, and it is the same on every machine. Each end has exactly one record. To restore
  * an older record counts as a reset: every call still keeps its promise, but that messages come up in order, each once
- * and none lost, holds only until then, as it does at any reset of one end alone.
+ * and none lost, holds only until then, as it does at any reset of one end alone. The counts go on from the older
+ * record's.
+ *
+ * Records of version 1, of SIMHADOL_RECORD_LENGTH_1 bytes, have no counts and are written no more. simhadol_upgrade
+ * makes a record of one, in a second area; every other call answers it with SIMHADOL_BAD_RECORD.
  *
  * POINTERS
  *
- * `record` points to `length` bytes that may be read and, but for simhadol_present, written. It needs no alignment. It
- * may be NULL if `length` is 0. No call reads or writes a byte outside of them. A record belongs to one call at a time
- * and overlaps nothing else that is in use: calls on different records may run at the same time, in any threads or
- * interrupts; whoever shares one record among them has to keep its calls apart, by a lock or otherwise.
+ * `record` points to `length` bytes that may be read and, but for simhadol_present and simhadol_counts, written. It needs
+ * no alignment. It may be NULL if `length` is 0. No call reads or writes a byte outside of them. A record belongs to one
+ * call at a time and overlaps nothing else that is in use: calls on different records may run at the same time, in any
+ * threads or interrupts; whoever shares one record among them has to keep its calls apart, by a lock or otherwise. The
+ * same holds of `old`, which is only read: the two areas of simhadol_upgrade must not overlap.
  *
  * ANSWERS
  *
  * Every call answers by one table. With any answer but SIMHADOL_DONE all else that is given is 0 and every byte of the
  * record stays as it was. (Bytes that stay may still be written, with the value that they have; by simhadol_present and
- * with SIMHADOL_BAD_RECORD no byte is.) Where two answers apply, the one that stands first in 11, 2, 3, 10, 4, 5, 6 is
- * given. Arguments are numbers of sixteen bits: what C cuts off a wider one, no call can see.
+ * simhadol_counts and with SIMHADOL_BAD_RECORD no byte is.) Where two answers apply, the one that stands first in 11, 2,
+ * 3, 10, 4, 5, 6 is given. Arguments are numbers of sixteen bits: what C cuts off a wider one, no call can see.
  *
- * SIMHADOL_BAD_RECORD, from every call but simhadol_reset, says that these bytes are not the record of an end: `length`
- * or the record's own length is not SIMHADOL_RECORD_LENGTH, the version is not known, or a byte is above its largest
- * value. It comes before any other check. Any bytes at all may be given: those that are no record get this answer.
+ * SIMHADOL_BAD_RECORD, from every call but simhadol_reset and simhadol_upgrade, says that these bytes are not the record
+ * of an end: `length` or the record's own length is not SIMHADOL_RECORD_LENGTH, the version is not 2, or a byte is above
+ * its largest value. It comes before any other check. Any bytes at all may be given: those that are no record get this
+ * answer.
  */
 #ifndef SIMHADOL_H
 #define SIMHADOL_H
@@ -53,7 +59,10 @@ extern "C" {
 #endif
 
 /* The length of a record in bytes, for arrays. It equals simhadol_record_length(). */
-#define SIMHADOL_RECORD_LENGTH 92
+#define SIMHADOL_RECORD_LENGTH 100
+
+/* The length of a record of version 1, for simhadol_upgrade. */
+#define SIMHADOL_RECORD_LENGTH_1 92
 
 /* What `answer` can be. */
 enum {
@@ -116,6 +125,27 @@ typedef struct simhadol_taken {
     uint16_t symbols; /* with MARKED and EARLY how many symbols the broken collection had, 1 to 11, else 0 */
 } simhadol_taken;
 
+/*
+ * What simhadol_counts gives, by value: how many collections ended with each reason, since simhadol_reset or
+ * simhadol_upgrade filled the area. Each count stops at 65,535, which so stands for that many or more.
+ */
+typedef struct simhadol_counted {
+    uint16_t answer;
+    uint16_t accepted; /* frames accepted */
+    uint16_t crc;      /* collections that the CRC showed to be wrong */
+    uint16_t marked;   /* collections broken by a marked symbol */
+    uint16_t early;    /* collections broken by an early even symbol */
+} simhadol_counted;
+
+/* Where a record has its counts, two bytes each, the high byte first: for whoever has the bytes but not the library. */
+enum {
+    SIMHADOL_ACCEPTED_COUNT = 92,
+    SIMHADOL_CRC_COUNT = 94,
+    SIMHADOL_MARKED_COUNT = 96,
+    SIMHADOL_EARLY_COUNT = 98
+};
+#define SIMHADOL_COUNT_AT(record, at) ((uint16_t)((uint16_t)(record)[at] << 8 | (record)[(at) + 1]))
+
 /* The length of a record in bytes, as the library was built with it. */
 size_t simhadol_record_length(void);
 
@@ -175,6 +205,20 @@ simhadol_reply simhadol_set_health(uint8_t *record, size_t length, uint16_t heal
  * Answers DONE, with 1 (present) or 0 (not) as the value, or BAD_RECORD.
  */
 simhadol_reply simhadol_present(const uint8_t *record, size_t length);
+
+/*
+ * The four counts, all of the same moment. It writes no byte. Only filling the area anew sets a count back.
+ * Answers DONE, or BAD_RECORD with all counts 0.
+ */
+simhadol_counted simhadol_counts(const uint8_t *record, size_t length);
+
+/*
+ * Fills the area `record` with the record of the end in `old`, which is a record of version 1, with all counts 0. What
+ * the area held before does not matter; it may be uninitialised. `old` is only read. The areas must not overlap.
+ * Answers DONE, or BAD_RECORD if `old` is anything but a good record of version 1 (a record of version 2 is none), or if
+ * `length` is not SIMHADOL_RECORD_LENGTH; no byte is then written.
+ */
+simhadol_reply simhadol_upgrade(const uint8_t *old, size_t old_length, uint8_t *record, size_t length);
 
 #ifdef __cplusplus
 }

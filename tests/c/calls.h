@@ -9,7 +9,9 @@
 #include <stdbool.h>
 #include <string.h>
 
-#define LENGTH 92
+#define LENGTH 100
+/* of version 1 */
+#define LENGTH_1 92
 /* odd, so that the record has no alignment */
 #define SIDE 33
 #define ROOM (SIDE + LENGTH + SIDE + 1)
@@ -17,7 +19,8 @@
 
 /* places in a record */
 enum { VERSION = 2, TX = 3, POSITION = 27, READY = 29, HEALTH = 30, PENDING = 32, REGISTER_TOGGLE = 33, NUMBER = 36,
-       BYTES = 38, RX = 46, COUNT = 70, PRESENT = 71, VALID = 75, TOGGLE = 76, EXPECTED_TOGGLE = 79, ACKNOWLEDGE = 80 };
+       BYTES = 38, RX = 46, COUNT = 70, PRESENT = 71, VALID = 75, TOGGLE = 76, EXPECTED_TOGGLE = 79, ACKNOWLEDGE = 80,
+       COUNTS = 92 };
 
 /* two records, each with guards on both sides */
 extern uint8_t room_a[ROOM], room_b[ROOM];
@@ -29,7 +32,7 @@ struct test {
 };
 
 /* The last of each has no name. */
-extern const struct test record_tests[], end_tests[], reason_tests[];
+extern const struct test record_tests[], end_tests[], reason_tests[], count_tests[], upgrade_tests[];
 
 /* Tells what does not hold, and has the test fail. */
 #define CHECK(what) check(what, #what, __FILE__, __LINE__)
@@ -51,6 +54,13 @@ static inline bool is(simhadol_reply reply, uint16_t answer, uint16_t value)
 static inline bool told(simhadol_taken taken, uint16_t answer, uint16_t reason, uint16_t symbols)
 {
     return taken.answer == answer && taken.reason == reason && taken.symbols == symbols;
+}
+
+static inline bool counted(simhadol_counted counts, uint16_t answer, uint16_t accepted, uint16_t crc, uint16_t marked,
+                           uint16_t early)
+{
+    return counts.answer == answer && counts.accepted == accepted && counts.crc == crc && counts.marked == marked &&
+           counts.early == early;
 }
 
 static inline simhadol_reply send(uint8_t *record)
@@ -87,6 +97,23 @@ static inline simhadol_reply present(const uint8_t *record)
 {
     return simhadol_present(record, LENGTH);
 }
+
+static inline simhadol_counted counts(const uint8_t *record)
+{
+    return simhadol_counts(record, LENGTH);
+}
+
+/* Record b is upgraded into the area a. */
+static inline simhadol_reply upgrade(size_t old_length, size_t length)
+{
+    return simhadol_upgrade(b, old_length, a, length);
+}
+
+/* Each call but reset and upgrade gives 11 and 0, other faults in its arguments or not. */
+void all_give_11(uint8_t *record, size_t length);
+
+/* The largest value of each byte behind the head. */
+int largest(size_t place);
 
 /* Symbol n of the twelve that stand at a place of a record. */
 static inline uint16_t symbol_at(const uint8_t *record, size_t place, size_t n)

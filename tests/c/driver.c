@@ -4,10 +4,15 @@
  *   X area HEX            X is a or b: its area is laid anew, with these bytes
  *   X area empty          no bytes, at a pointer that is not NULL
  *   X area null           no bytes, at NULL, as both are at the start
+ *   X seal                between pages, the area can't be written until the next call on it is done
  *   X reset, X send, X take N, X read N, X write N V, X health N, X present
  *                         prints the answer, the value and the area's bytes after the call, - where it has none
  *   X reason N            takes: prints the answer, the reason, the symbols of a broken collection and the bytes
- *   length                prints the macro SIMHADOL_RECORD_LENGTH and what simhadol_record_length gives
+ *   X counts              prints the answer, the four counts and the bytes
+ *   X upgrade Y           Y is the other one, with the old record: prints the answer, the value, the bytes of X and
+ *                         then those of Y
+ *   length                prints the macro SIMHADOL_RECORD_LENGTH, what simhadol_record_length gives, and the macro
+ *                         SIMHADOL_RECORD_LENGTH_1
  *
  * Numbers are decimal, bytes hex. HOW an area is laid:
  *
@@ -15,6 +20,8 @@
  *   heap                  as a block of exactly its size, so that valgrind sees each byte beyond it
  *   page-before           right behind a page that can't be read or written
  *   page-after            right before such a page
+ *
+ * Between pages, an area that a call only reads is sealed for it.
  *
  * Guard bytes fill what is left beside the area, and are looked at after each call. A call that harms one is named on
  * standard error, with status 1. Input that can't be read is named there too, with status 2.
@@ -75,79 +82,6 @@ static void lay_as_told(struct area *area, const char *what)
         lay_hex(area, what);
 }
 
-/* What a call gives, in its order. */
-struct given {
-    size_t count;
-    uint16_t numbers[3];
-};
-
-static struct given reply(simhadol_reply reply)
-{
-    return (struct given){2, {reply.answer, reply.value, 0}};
-}
-
-static struct given call_reset(struct area *area, const uint16_t *numbers)
-{
-    (void)numbers;
-    return reply(simhadol_reset(area->bytes, area->length));
-}
-
-static struct given call_send(struct area *area, const uint16_t *numbers)
-{
-    (void)numbers;
-    return reply(simhadol_send(area->bytes, area->length));
-}
-
-static struct given call_take(struct area *area, const uint16_t *numbers)
-{
-    return reply(simhadol_take(area->bytes, area->length, numbers[0]));
-}
-
-static struct given call_reason(struct area *area, const uint16_t *numbers)
-{
-    simhadol_taken taken = simhadol_take_reason(area->bytes, area->length, numbers[0]);
-    return (struct given){3, {taken.answer, taken.reason, taken.symbols}};
-}
-
-static struct given call_read(struct area *area, const uint16_t *numbers)
-{
-    return reply(simhadol_read(area->bytes, area->length, numbers[0]));
-}
-
-static struct given call_write(struct area *area, const uint16_t *numbers)
-{
-    return reply(simhadol_write(area->bytes, area->length, numbers[0], numbers[1]));
-}
-
-static struct given call_health(struct area *area, const uint16_t *numbers)
-{
-    return reply(simhadol_set_health(area->bytes, area->length, numbers[0]));
-}
-
-static struct given call_present(struct area *area, const uint16_t *numbers)
-{
-    (void)numbers;
-    return reply(simhadol_present(area->bytes, area->length));
-}
-
-static const struct call {
-    const char *name;
-    size_t numbers;
-    struct given (*make)(struct area *area, const uint16_t *numbers);
-} calls[] = {
-    {"reset", 0, call_reset}, {"send", 0, call_send},   {"take", 1, call_take},     {"reason", 1, call_reason},
-    {"read", 1, call_read},   {"write", 2, call_write}, {"health", 1, call_health}, {"present", 0, call_present},
-};
-
-static const struct call *named(const char *name)
-{
-    for (size_t i = 0; i < sizeof calls / sizeof *calls; i++)
-        if (strcmp(name, calls[i].name) == 0)
-            return &calls[i];
-    malformed("no such call");
-    return NULL;
-}
-
 static uint16_t number(const char *word)
 {
     char *end;
@@ -157,7 +91,13 @@ static uint16_t number(const char *word)
     return (uint16_t)value;
 }
 
-static void print(struct given given, const struct area *area)
+static void print_numbers(struct given given)
+{
+    for (size_t i = 0; i < given.count; i++)
+        printf("%u ", (unsigned)given.numbers[i]);
+}
+
+static void print_bytes(const struct area *area, char behind)
 {
     static const char digits[] = "0123456789ABCDEF";
     char hex[2 * LONGEST_AREA + 1] = "-";
@@ -167,38 +107,71 @@ static void print(struct given given, const struct area *area)
     }
     if (area->length > 0)
         hex[2 * area->length] = '\0';
-    for (size_t i = 0; i < given.count; i++)
-        printf("%u ", (unsigned)given.numbers[i]);
-    printf("%s\n", hex);
+    printf("%s%c", hex, behind);
+}
+
+/* What stops the next call by force leaves the lines before it to be read. */
+static void before_a_call(void)
+{
+    if (how != WITH_GUARDS)
+        fflush(stdout);
 }
 
 static void make_call(struct area *area, size_t count, char **words)
 {
-    const struct call *call = named(words[0]);
+    const struct call *call = call_named(words[0]);
     uint16_t numbers[2] = {0, 0};
-    if (count != 1 + call->numbers)
-        malformed("the call has too few or too many numbers");
+    if (call == NULL || count != 1 + call->numbers)
+        malformed("no such call, or it has too few or too many numbers");
     for (size_t i = 0; i < call->numbers; i++)
         numbers[i] = number(words[1 + i]);
-    /* what stops the next call by force leaves the lines before it to be read */
-    if (how != WITH_GUARDS)
-        fflush(stdout);
+    before_a_call();
     struct given given = call->make(area, numbers);
+    seal(area, false);
     check_guards(area);
-    print(given, area);
+    print_numbers(given);
+    print_bytes(area, '\n');
+}
+
+/* The two areas of the call must not overlap. */
+static void make_upgrade(struct area *area, struct area *old)
+{
+    if (area == old)
+        malformed("an area is upgraded from the other one");
+    before_a_call();
+    struct given given = upgrade(old, area);
+    seal(area, false);
+    seal(old, false);
+    check_guards(area);
+    check_guards(old);
+    print_numbers(given);
+    print_bytes(area, ' ');
+    print_bytes(old, '\n');
+}
+
+/* NULL where the word names no area. */
+static struct area *area_named(struct area areas[2], const char *word)
+{
+    bool is_a_or_b = strcmp(word, "a") == 0 || strcmp(word, "b") == 0;
+    return is_a_or_b ? &areas[word[0] == 'b'] : NULL;
 }
 
 static void obey(struct area areas[2], size_t count, char **words)
 {
     if (count == 1 && strcmp(words[0], "length") == 0) {
-        printf("%d %zu\n", SIMHADOL_RECORD_LENGTH, simhadol_record_length());
+        printf("%d %zu %d\n", SIMHADOL_RECORD_LENGTH, simhadol_record_length(), SIMHADOL_RECORD_LENGTH_1);
         return;
     }
-    if (count < 2 || (strcmp(words[0], "a") != 0 && strcmp(words[0], "b") != 0))
+    struct area *area = count < 2 ? NULL : area_named(areas, words[0]);
+    if (area == NULL)
         malformed("a line is length, or begins with a or b and what is to be done");
-    struct area *area = &areas[words[0][0] == 'b'];
+    struct area *old = count == 3 ? area_named(areas, words[2]) : NULL;
     if (count == 3 && strcmp(words[1], "area") == 0)
         lay_as_told(area, words[2]);
+    else if (count == 2 && strcmp(words[1], "seal") == 0)
+        seal(area, true);
+    else if (old != NULL && strcmp(words[1], "upgrade") == 0)
+        make_upgrade(area, old);
     else
         make_call(area, count - 1, words + 1);
 }

@@ -3,7 +3,6 @@
  */
 #define _DEFAULT_SOURCE /* mmap and its MAP_ANONYMOUS */
 #include "driver.h"
-#include <stdbool.h>
 #include <stdlib.h>
 #include <string.h>
 #include <sys/mman.h>
@@ -70,6 +69,14 @@ static uint8_t *between_pages(size_t length)
     if (start == MAP_FAILED || mprotect(start + page(), length, PROT_READ | PROT_WRITE) != 0)
         stop(2, "no memory");
     return start + page();
+}
+
+void seal(struct area *area, bool sealed)
+{
+    if (how == WITH_GUARDS || how == ON_HEAP || area->block == NULL)
+        return;
+    if (mprotect(area->block, area->block_length, sealed ? PROT_READ : PROT_READ | PROT_WRITE) != 0)
+        stop(2, "the pages can't be protected");
 }
 
 void lay(struct area *area, const uint8_t *bytes, size_t length)

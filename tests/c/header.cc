@@ -20,5 +20,15 @@ int main()
     good = good && simhadol_write(record, sizeof record, 2309, 0).answer == SIMHADOL_BLOCKED;
     good = good && simhadol_set_health(record, sizeof record, 4).answer == SIMHADOL_BAD_HEALTH;
     good = good && simhadol_present(record, sizeof record - 1).answer == SIMHADOL_BAD_RECORD;
+    simhadol_counted counted = simhadol_counts(record, sizeof record);
+    good = good && counted.answer == SIMHADOL_DONE && counted.accepted == 0 && counted.crc == 0;
+    good = good && counted.marked == 1 && counted.early == 0;
+    good = good && SIMHADOL_COUNT_AT(record, SIMHADOL_ACCEPTED_COUNT) == 0;
+    good = good && SIMHADOL_COUNT_AT(record, SIMHADOL_CRC_COUNT) == 0;
+    good = good && SIMHADOL_COUNT_AT(record, SIMHADOL_MARKED_COUNT) == 1;
+    good = good && SIMHADOL_COUNT_AT(record, SIMHADOL_EARLY_COUNT) == 0;
+    const uint8_t old[SIMHADOL_RECORD_LENGTH_1] = {0, SIMHADOL_RECORD_LENGTH_1, 1};
+    good = good && simhadol_upgrade(old, sizeof old, record, sizeof record).answer == SIMHADOL_DONE;
+    good = good && simhadol_upgrade(record, sizeof record, NULL, 0).answer == SIMHADOL_BAD_RECORD;
     return good ? 0 : 1;
 }

@@ -2,7 +2,7 @@
 
 use crate::answer::Answer;
 use crate::proved::feed;
-use crate::record::{Call, Reply};
+use crate::record::{upgrade, Call, Reply};
 use crate::script::first_difference;
 use std::collections::BTreeMap;
 use std::fmt::Write;
@@ -52,20 +52,40 @@ impl Calls {
 
     /// A call, with what it must give and leave. A refusal gives 0 and leaves the bytes, whoever worked it out.
     pub fn expect(&mut self, side: usize, call: Call, reply: Reply, after: Vec<u8>) {
-        let (answer, value, collected) = reply;
-        let refused = (value, collected) == (0, 0) && after == self.areas[side];
+        let (answer, given) = reply;
+        let refused = given == [0; 4] && after == self.areas[side];
         assert!(answer == Answer::Done || refused, "{} changes what it refuses", call);
+        self.seal_for(side, answer);
         self.say(format!("{} {}", SIDES[side], call));
-        let given = match call {
-            Call::TakeReason(_) => format!("{} {}", value, collected),
-            _ => value.to_string(),
-        };
-        let bytes = if after.is_empty() { "-".to_string() } else { hex(&after) };
-        writeln!(self.expected, "{} {} {}", answer.number(), given, bytes).expect("memory takes what is written");
+        write!(self.expected, "{} ", answer.number()).expect("memory takes what is written");
+        for number in &given[..call.gives()] {
+            write!(self.expected, "{} ", number).expect("memory takes what is written");
+        }
         self.areas[side] = after;
+        self.expected += &shown(&self.areas[side]);
+        self.expected.push('\n');
         *self.counts.entry((call.name(), answer.number())).or_default() += 1;
         if let (Call::TakeReason(_), Answer::Done) = (call, answer) {
-            *self.reasons.entry((value, collected)).or_default() += 1;
+            *self.reasons.entry((given[0], given[1])).or_default() += 1;
+        }
+    }
+
+    /// The area of a side is to be filled from the other one, which is only read.
+    pub fn upgrade(&mut self, side: usize) -> Answer {
+        let old = self.areas[1 - side].clone();
+        let answer = upgrade(&old, &mut self.areas[side]);
+        self.seal_for(side, answer);
+        self.say(format!("{} upgrade {}", SIDES[side], SIDES[1 - side]));
+        let (bytes, old) = (shown(&self.areas[side]), shown(&old));
+        writeln!(self.expected, "{} 0 {} {}", answer.number(), bytes, old).expect("memory takes what is written");
+        *self.counts.entry(("upgrade", answer.number())).or_default() += 1;
+        answer
+    }
+
+    /// With 11 no byte is written, not even with the value that it has.
+    fn seal_for(&mut self, side: usize, answer: Answer) {
+        if answer == Answer::BadRecord {
+            self.say(format!("{} seal", SIDES[side]));
         }
     }
 
@@ -116,16 +136,34 @@ impl Calls {
                 areas[side] = bytes;
                 continue;
             }
+            if line.ends_with(" seal") {
+                continue;
+            }
+            // Of an upgrade the other area is printed too, as the last.
+            let upgrades = line[2..].starts_with("upgrade");
             if said == index {
                 asked = format!("{}, on {}", line, areas[side]);
+                if upgrades {
+                    asked += &format!(", from {}", areas[1 - side]);
+                }
                 break;
             }
-            areas[side] = answers.next().and_then(|answer| answer.rsplit(' ').next()).unwrap_or_default();
+            let bytes = answers.next().and_then(|answer| answer.rsplit(' ').nth(usize::from(upgrades)));
+            areas[side] = bytes.unwrap_or_default();
             said += 1;
         }
         let printed = String::from_utf8_lossy(printed);
         let line = |output: &str| output.lines().nth(index).unwrap_or("(nothing)").to_string();
         format!("call {}: {}\n  second: {}\n  driver: {}", index + 1, asked, line(&self.expected), line(&printed))
+    }
+}
+
+/// As the driver prints an area.
+fn shown(area: &[u8]) -> String {
+    if area.is_empty() {
+        "-".to_string()
+    } else {
+        hex(area)
     }
 }
 

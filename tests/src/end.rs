@@ -1,5 +1,5 @@
-//! One end: document 01, "Sending, one symbol a slot" and "Taking, one symbol", with the reason of document 02, #105.
-//! The registers are in `registers`.
+//! One end: document 01, "Sending, one symbol a slot" and "Taking, one symbol", with the reason of document 02, #105,
+//! and the counts of #106. The registers are in `registers`.
 //!
 //! Every field is public, as any end may come in; one that is out of range is answered 1 and left as it was.
 
@@ -49,6 +49,11 @@ pub struct End {
     pub rx_toggle: bool,
     pub rx_number: u8,
     pub rx_bytes: [u8; 8],
+    /// From here on: how many collections ended with each reason, 65,535 standing for more as well.
+    pub accepted_count: u16,
+    pub crc_count: u16,
+    pub marked_count: u16,
+    pub early_count: u16,
 }
 
 /// What became of a collection, at its twelfth symbol or where it is broken. An empty one can't be broken.
@@ -136,7 +141,9 @@ impl End {
             return (Answer::BadSymbol, None);
         }
         self.settle();
-        (Answer::Done, self.collect(symbol))
+        let reason = self.collect(symbol);
+        self.count_up(reason);
+        (Answer::Done, reason)
     }
 
     /// Taking step 1.
@@ -172,6 +179,17 @@ impl End {
         }
         self.accept();
         Some(Reason::Accepted)
+    }
+
+    fn count_up(&mut self, reason: Option<Reason>) {
+        let count = match reason {
+            None => return,
+            Some(Reason::Accepted) => &mut self.accepted_count,
+            Some(Reason::Crc) => &mut self.crc_count,
+            Some(Reason::Marked(_)) => &mut self.marked_count,
+            Some(Reason::Early(_)) => &mut self.early_count,
+        };
+        *count = count.saturating_add(1);
     }
 
     /// Taking step 3, the CRC being right.

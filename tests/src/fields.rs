@@ -5,13 +5,14 @@ use crate::end::End;
 pub enum Field<'a> {
     Bool(&'a mut bool),
     Byte(&'a mut u8),
+    Word(&'a mut u16),
     Symbols(&'a mut [u16]),
     Bytes(&'a mut [u8]),
 }
 
 /// All fields, in the order of `dump`.
-pub fn fields(end: &mut End) -> [(&'static str, Field<'_>); 29] {
-    use Field::{Bool, Byte, Bytes, Symbols};
+pub fn fields(end: &mut End) -> [(&'static str, Field<'_>); 33] {
+    use Field::{Bool, Byte, Bytes, Symbols, Word};
     [
         ("tx", Symbols(&mut end.tx)),
         ("position", Byte(&mut end.position)),
@@ -42,6 +43,10 @@ pub fn fields(end: &mut End) -> [(&'static str, Field<'_>); 29] {
         ("rx_toggle", Bool(&mut end.rx_toggle)),
         ("rx_number", Byte(&mut end.rx_number)),
         ("rx_bytes", Bytes(&mut end.rx_bytes)),
+        ("accepted_count", Word(&mut end.accepted_count)),
+        ("crc_count", Word(&mut end.crc_count)),
+        ("marked_count", Word(&mut end.marked_count)),
+        ("early_count", Word(&mut end.early_count)),
     ]
 }
 
@@ -51,14 +56,14 @@ impl Field<'_> {
         match self {
             Field::Bool(_) => 1,
             Field::Byte(_) | Field::Bytes(_) => 0xFF,
-            Field::Symbols(_) => 0xFFFF,
+            Field::Word(_) | Field::Symbols(_) => 0xFFFF,
         }
     }
 
     /// The number of elements of an array, none for a single value.
     pub fn elements(&self) -> Option<usize> {
         match self {
-            Field::Bool(_) | Field::Byte(_) => None,
+            Field::Bool(_) | Field::Byte(_) | Field::Word(_) => None,
             Field::Symbols(symbols) => Some(symbols.len()),
             Field::Bytes(bytes) => Some(bytes.len()),
         }
@@ -69,6 +74,7 @@ impl Field<'_> {
         match self {
             Field::Bool(bool) => **bool = value == 1,
             Field::Byte(byte) => **byte = value as u8,
+            Field::Word(word) => **word = value,
             Field::Symbols(symbols) => symbols[index] = value,
             Field::Bytes(bytes) => bytes[index] = value as u8,
         }
@@ -78,6 +84,7 @@ impl Field<'_> {
         match self {
             Field::Bool(bool) => vec![u16::from(**bool)],
             Field::Byte(byte) => vec![u16::from(**byte)],
+            Field::Word(word) => vec![**word],
             Field::Symbols(symbols) => symbols.to_vec(),
             Field::Bytes(bytes) => bytes.iter().map(|byte| u16::from(*byte)).collect(),
         }

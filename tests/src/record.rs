@@ -1,15 +1,18 @@
-//! An end as a record of bytes, and the calls on one: document 02, #104, and #105's reason.
+//! An end as a record of bytes, and the calls on one: document 02, #104, #105's reason, and #106.
 //!
 //! Two bytes of length, big-endian, counting the whole record; one version byte; then the end, field by field in the
-//! order of `fields`. A symbol has two bytes, the high one first; everything else has one.
+//! order of `fields`. A symbol or a count has two bytes, the high one first; everything else has one. Version 1 has no
+//! counts.
 
 use crate::answer::Answer;
 use crate::end::{End, Reason};
 use crate::fields::{fields, Field};
 use std::fmt;
 
-pub const LENGTH: usize = 92;
-pub const VERSION: u8 = 1;
+pub const LENGTH: usize = 100;
+pub const VERSION: u8 = 2;
+const LENGTH_1: usize = 92;
+const VERSION_1: u8 = 1;
 
 /// The calls. Written out, one is the driver's command for it.
 #[derive(Clone, Copy, Debug, PartialEq, Eq)]
@@ -23,11 +26,12 @@ pub enum Call {
     Write(u16, u16),
     SetHealth(u16),
     Present,
+    Counts,
 }
 
-/// Answer and value, 0 where the call has none. The call that tells the reason gives its number as the value, and how
-/// many symbols a broken collection had; no other call gives that third number, so it is 0.
-pub type Reply = (Answer, u16, u16);
+/// The answer, and what else the call gives, in the header's order: a value; the reason's number and how many symbols a
+/// broken collection had; or the four counts. What it does not give is 0.
+pub type Reply = (Answer, [u16; 4]);
 
 impl Call {
     pub fn name(&self) -> &'static str {
@@ -40,6 +44,16 @@ impl Call {
             Call::Write(..) => "write",
             Call::SetHealth(_) => "health",
             Call::Present => "present",
+            Call::Counts => "counts",
+        }
+    }
+
+    /// How many numbers it gives beside the answer.
+    pub fn gives(&self) -> usize {
+        match self {
+            Call::Counts => 4,
+            Call::TakeReason(_) => 2,
+            _ => 1,
         }
     }
 
@@ -55,14 +69,18 @@ impl Call {
             Call::TakeReason(symbol) => {
                 let (answer, reason) = end.take(symbol);
                 let (number, collected) = reason_numbers(reason);
-                return (answer, number, collected);
+                return (answer, [number, collected, 0, 0]);
             }
             Call::Read(register) => end.read(register),
             Call::Write(register, value) => (end.write(register, value), 0),
             Call::SetHealth(health) => (end.set_health(health), 0),
             Call::Present => (Answer::Done, u16::from(end.is_present())),
+            Call::Counts => {
+                let counts = [end.accepted_count, end.crc_count, end.marked_count, end.early_count];
+                return (Answer::Done, counts);
+            }
         };
-        (answer, value, 0)
+        (answer, [value, 0, 0, 0])
     }
 
     /// The call on a record. Reset asks only for an area of the right size; a refusal leaves all bytes.
@@ -73,7 +91,7 @@ impl Call {
         };
         let mut end = match end {
             Some(end) => end,
-            None => return (Answer::BadRecord, 0, 0),
+            None => return (Answer::BadRecord, [0; 4]),
         };
         let reply = self.on_end(&mut end);
         if reply.0 == Answer::Done {
@@ -87,7 +105,7 @@ impl fmt::Display for Call {
     fn fmt(&self, out: &mut fmt::Formatter) -> fmt::Result {
         let name = self.name();
         match self {
-            Call::Reset | Call::Send | Call::Present => write!(out, "{}", name),
+            Call::Reset | Call::Send | Call::Present | Call::Counts => write!(out, "{}", name),
             Call::Take(number) | Call::TakeReason(number) | Call::Read(number) | Call::SetHealth(number) => {
                 write!(out, "{} {}", name, number)
             }
@@ -107,13 +125,25 @@ fn reason_numbers(reason: Option<Reason>) -> (u16, u16) {
     }
 }
 
-fn head() -> [u8; 3] {
-    let [high, low] = (LENGTH as u16).to_be_bytes();
-    [high, low, VERSION]
+/// Fills the area with the record of the end in a good record of version 1, all counts 0. Anything else is answered 11,
+/// and leaves the area.
+pub fn upgrade(old: &[u8], area: &mut [u8]) -> Answer {
+    match read(old, LENGTH_1, VERSION_1) {
+        Some(end) if area.len() == LENGTH => {
+            area.copy_from_slice(&record_of(&end));
+            Answer::Done
+        }
+        _ => Answer::BadRecord,
+    }
+}
+
+fn head(length: usize, version: u8) -> [u8; 3] {
+    let [high, low] = (length as u16).to_be_bytes();
+    [high, low, version]
 }
 
 pub fn record_of(end: &End) -> Vec<u8> {
-    let mut record = head().to_vec();
+    let mut record = head(LENGTH, VERSION).to_vec();
     for (_, field) in fields(&mut end.clone()) {
         for value in field.values() {
             record.extend_from_slice(&value.to_be_bytes()[2 - width(&field)..]);
@@ -124,12 +154,20 @@ pub fn record_of(end: &End) -> Vec<u8> {
 
 /// None where answer 11 is given.
 pub fn end_of(record: &[u8]) -> Option<End> {
-    let mut rest = record.strip_prefix(&head())?;
-    if record.len() != LENGTH {
+    read(record, LENGTH, VERSION)
+}
+
+/// A record of this length and version. A field that its version does not have is 0.
+fn read(record: &[u8], length: usize, version: u8) -> Option<End> {
+    let mut rest = record.strip_prefix(&head(length, version))?;
+    if record.len() != length {
         return None;
     }
     let mut end = End::default();
     for (_, mut field) in fields(&mut end) {
+        if version == VERSION_1 && matches!(field, Field::Word(_)) {
+            continue;
+        }
         for index in 0..field.elements().unwrap_or(1) {
             let (bytes, behind) = rest.split_at(width(&field));
             rest = behind;
@@ -146,7 +184,7 @@ pub fn end_of(record: &[u8]) -> Option<End> {
 
 fn width(field: &Field) -> usize {
     match field {
-        Field::Symbols(_) => 2,
+        Field::Symbols(_) | Field::Word(_) => 2,
         Field::Bool(_) | Field::Byte(_) | Field::Bytes(_) => 1,
     }
 }

@@ -3,6 +3,7 @@ use crate::fields;
 use crate::print;
 use crate::words::next;
 use end::Collector;
+use end::Counts;
 use end::End;
 use end::Heard;
 use end::Inbox;
@@ -90,6 +91,10 @@ fn value(end: End, field: usize, i: usize) -> u16 {
             let part = end.inbox;
             inbox_value(part, field, i)
         }
+        fields::ACCEPTED_COUNT..=fields::EARLY_COUNT => {
+            let part = end.counts;
+            counts_value(part, field)
+        }
         _ => 0,
     }
 }
@@ -149,6 +154,16 @@ fn inbox_value(part: Inbox, field: usize, i: usize) -> u16 {
         fields::RX_TOGGLE => bit(part.toggle),
         fields::RX_NUMBER => wide(part.number),
         fields::RX_BYTES => wide(part.bytes[i % 8]),
+        _ => 0,
+    }
+}
+
+fn counts_value(part: Counts, field: usize) -> u16 {
+    match field {
+        fields::ACCEPTED_COUNT => part.accepted,
+        fields::CRC_COUNT => part.crc,
+        fields::MARKED_COUNT => part.marked,
+        fields::EARLY_COUNT => part.early,
         _ => 0,
     }
 }

@@ -5,11 +5,12 @@ use crate::words::index_of;
 ghost use Prim.Native.Nat.{_≤_};
 
 // The names, in dump's order, and the place of each.
-pub const NAMES: [u8; 263] = *b"tx position sending_toggle ready health loaded_health \
+pub const NAMES: [u8; 313] = *b"tx position sending_toggle ready health loaded_health \
     pending register_toggle received received_toggle number ping_tx bytes \
     rx count \
     present partner_health ping_got partner_ping valid toggle ack togack \
-    expected_toggle acknowledge full rx_toggle rx_number rx_bytes";
+    expected_toggle acknowledge full rx_toggle rx_number rx_bytes \
+    accepted_count crc_count marked_count early_count";
 
 pub const TX: usize = 0;
 
@@ -69,7 +70,15 @@ pub const RX_NUMBER: usize = 27;
 
 pub const RX_BYTES: usize = 28;
 
-pub const FIELDS: usize = 29;
+pub const ACCEPTED_COUNT: usize = 29;
+
+pub const CRC_COUNT: usize = 30;
+
+pub const MARKED_COUNT: usize = 31;
+
+pub const EARLY_COUNT: usize = 32;
+
+pub const FIELDS: usize = 33;
 
 // The field of a name; FIELDS or more where there is none.
 pub fn field_of(word: &[u8]) -> usize {
@@ -89,12 +98,12 @@ pub fn elements(field: usize) -> usize
     }
 }
 
-// The largest value of a field: a symbol sixteen bits, a bool 1, any other a byte.
+// The largest value of a field: a symbol or a count sixteen bits, a bool 1, any other a byte.
 pub fn largest(field: usize) -> u32
     ensures { λ r. ⌜ r ≤ 65535 ⌝ }
 {
     match field {
-        TX | RX => MOST,
+        TX | RX | ACCEPTED_COUNT | CRC_COUNT | MARKED_COUNT | EARLY_COUNT => MOST,
         POSITION
         | HEALTH
         | LOADED_HEALTH

@@ -70,6 +70,7 @@ emptied kept e = record {
     number = e .inbox .number;
     bytes = e .inbox .bytes;
   };
+  counts = e .counts;
 }
 
 pub read-received : (e : End) (i : ℕ) → bad e ≡ false → i < 4 →
@@ -171,6 +172,7 @@ pub write-message : (e : End) (i v : ℕ) → bad e ≡ false → e .outbox .pen
         collector = e .collector;
         heard = e .heard;
         inbox = e .inbox;
+        counts = e .counts;
       };
     }
 write-message e i v b p =
@@ -184,6 +186,7 @@ write-message e i v b p =
         collector = e .collector;
         heard = e .heard;
         inbox = e .inbox;
+        counts = e .counts;
       };
     })
     (write-done e 2309 v b refl refl refl (and-no _ p))

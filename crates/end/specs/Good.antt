@@ -11,6 +11,7 @@ use mathlib.Core.List.{List, [], _∷_}
 use lib.Dec.{ltb}
 use lib.ListN.{replicate}
 use Rattle.end.specs.declared.End.{End}
+use Rattle.end.specs.Counting.{noCounts}
 
 unfoldable pub above : ℕ → List ℕ → Bool
 above b [] = false
@@ -59,6 +60,7 @@ resetOf = record {
     number = 0;
     bytes = replicate 8 0;
   };
+  counts = noCounts;
 }
 
 unfoldable pub presentOf : End → Bool

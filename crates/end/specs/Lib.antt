@@ -1,3 +1,4 @@
+pub mod Counting
 pub mod Good
 pub mod Sending
 pub mod Taking

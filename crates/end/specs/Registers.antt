@@ -76,6 +76,7 @@ readEnd e r = record {
     number = e .inbox .number;
     bytes = e .inbox .bytes;
   };
+  counts = e .counts;
 }
 
 unfoldable pub readOf : End → ℕ → Got
@@ -137,6 +138,7 @@ written e r v = record {
   collector = e .collector;
   heard = e .heard;
   inbox = e .inbox;
+  counts = e .counts;
 }
 
 unfoldable pub writeOf : End → ℕ → ℕ → Next
@@ -169,6 +171,7 @@ withHealth e h = record {
   collector = e .collector;
   heard = e .heard;
   inbox = e .inbox;
+  counts = e .counts;
 }
 
 unfoldable pub healthOf : End → ℕ → Next

@@ -50,6 +50,7 @@ stepOne a e = record {
   collector = e .collector;
   heard = e .heard;
   inbox = e .inbox;
+  counts = e .counts;
 }
 
 abbrev pub loads : End → Bool
@@ -104,6 +105,7 @@ stepsTwoToFour a l e = record {
   collector = e .collector;
   heard = e .heard;
   inbox = e .inbox;
+  counts = e .counts;
 }
 
 unfoldable pub frameStart : End → End
@@ -124,6 +126,7 @@ movedOn e = record {
   collector = e .collector;
   heard = e .heard;
   inbox = e .inbox;
+  counts = e .counts;
 }
 
 -- the end whose symbol goes out in this slot, where n says that a new frame is made
@@ -134,6 +137,7 @@ started n e = record {
   collector = e .collector;
   heard = e .heard;
   inbox = e .inbox;
+  counts = e .counts;
 }
 
 -- the end of this slot: at position 0 a frame is made

@@ -8,7 +8,7 @@
 --   endedBy s n l  request #105: what becomes with the symbol s of a collection of n symbols, l being its symbols then
 --   reasonBy s c   that of the collection c
 --   enters, entered   step 3's second test: the register empty, Valid 1, Toggle the expected one; and the entering
---   taken s e      the three steps
+--   taken s e      the three steps, with what became of the collection counted (request #106)
 --   tookOf s e     what they give
 --   takeOf e s     what take gives
 -- Assumes nothing.
@@ -27,6 +27,7 @@ use Rattle.end.specs.declared.Collector.{Collector}
 use Rattle.end.specs.declared.Heard.{Heard}
 use Rattle.end.specs.declared.Inbox.{Inbox}
 use Rattle.end.specs.declared.Taken.{Taken}
+use Rattle.end.specs.Counting.{tallied}
 use Rattle.end.specs.Good.{bad}
 
 -- 1. Settle
@@ -134,6 +135,7 @@ taken s e = record {
       (enters (accepts s (e .collector)) (saidBy (placed s (e .collector))) (settled e))
       (placed s (e .collector))
       (settled e);
+  counts = tallied (reasonBy s (e .collector)) (e .counts);
 }
 
 abbrev pub tookOf : ℕ → End → Taken

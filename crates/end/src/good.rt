@@ -1,5 +1,6 @@
 // Answer 1, the end after reset, and presence.
 use crate::Collector;
+use crate::Counts;
 use crate::End;
 use crate::Heard;
 use crate::Inbox;
@@ -52,6 +53,12 @@ impl End {
                 toggle: false,
                 number: 0,
                 bytes: [0; 8],
+            },
+            counts: Counts {
+                accepted: 0,
+                crc: 0,
+                marked: 0,
+                early: 0,
             },
         }
     }

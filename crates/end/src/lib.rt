@@ -3,6 +3,7 @@
 //
 // In these files conditions are joined by `&` and `|`, not `&&` and `||`: no part of one can fail, and with no branch
 // in it a condition is one equation to its definition.
+mod counting;
 mod good;
 mod message;
 mod reading;
@@ -69,12 +70,25 @@ pub struct Inbox {
     pub bytes: [u8; 8],
 }
 
+// Request #106: how many collections ended with each reason since reset. A count stops at 65,535.
+pub struct Counts {
+    // frames accepted
+    pub accepted: u16,
+    // collections failed by the CRC
+    pub crc: u16,
+    // broken by a mark
+    pub marked: u16,
+    // broken by an early even symbol
+    pub early: u16,
+}
+
 pub struct End {
     pub sender: Sender,
     pub outbox: Outbox,
     pub collector: Collector,
     pub heard: Heard,
     pub inbox: Inbox,
+    pub counts: Counts,
 }
 
 // What send gives: the symbol of this slot.

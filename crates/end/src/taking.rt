@@ -4,6 +4,7 @@ use crate::End;
 use crate::Heard;
 use crate::Inbox;
 use crate::Taken;
+use crate::counting::tally;
 use crate::good::bad;
 use crate::message::message_of;
 use answer::Answer;
@@ -17,7 +18,7 @@ ghost use Rattle.end.specs.Taking.{tookOf, takeOf};
 
 impl End {
     // Settle, collect and, with the twelfth symbol of a frame whose CRC is right, accept and enter. Says what became of
-    // the collection.
+    // the collection, and counts it.
     pub fn take(self, symbol: u16) -> Taken
         ensures { λ r. ⌜ r ≡ takeOf self symbol ⌝ }
     {
@@ -39,7 +40,7 @@ impl End {
     }
 }
 
-// The three steps.
+// The three steps, and what became of the collection is counted.
 fn taken(symbol: u16, mut end: End) -> Taken
     requires { ⌜ bad end ≡ false ⌝ }
     ensures { λ r. ⌜ r ≡ tookOf symbol end ⌝ }
@@ -53,9 +54,12 @@ fn taken(symbol: u16, mut end: End) -> Taken
     let accepted = frame::reason::is_accepted(reason);
     let heard = hear(accepted, symbols, last);
     let entered = enter(accepted, symbols, inbox);
+    let so_far = end.counts;
+    let counts = tally(reason, so_far);
     end.collector = collector;
     end.heard = heard;
     end.inbox = entered;
+    end.counts = counts;
     Taken {
         answer: Answer::Done,
         reason,

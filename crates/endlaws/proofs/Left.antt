@@ -39,6 +39,7 @@ written-leaves e r v b = record {
   collector = refl;
   heard = refl;
   inbox = refl;
+  counts = refl;
   toggle = cond-same (eqb r 2308) (e .outbox .toggle);
   received = cond-same (eqb r 2308) (e .outbox .received);
   confirmed = cond-same (eqb r 2308) (e .outbox .confirmed);

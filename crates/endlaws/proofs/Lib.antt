@@ -11,5 +11,7 @@ pub mod Left
 pub mod Collecting
 pub mod Accepted
 pub mod Reasons
+pub mod Counted
+pub mod Apart
 pub mod Through
 pub mod Presence

@@ -2,27 +2,32 @@
 --   reset-shaped, after-shaped   the end after reset has it, and each call keeps it
 --   placed-keeps, placed-length  what storing a received symbol keeps
 --   counted-keeps                what counting it keeps
+--   tallied-below                counts of sixteen bits stay such
 -- Assumes nothing.
-use Prim.Native.Nat.{ℕ, suc, _+_, _<_, _%_, _/_}
+use Prim.Native.Nat.{ℕ, suc, _+_, _<_, _≤_, _%_, _/_}
 use mathlib.Core.Bool.{Bool, true, false}
 use mathlib.Core.List.{List, map}
 use mathlib.Core.Path.{_≡_, ap, _∙_}
 use native.Mathlib.Omega.{arith}
-use lib.Dec.{eqb}
-use lib.ListN.{length, set, take, drop, length-set, length-take, length-drop, length-map}
-use borrow.Author.Tests.{eqb-false}
+use lib.Dec.{eqb, ltb}
+use lib.ListN.{length, getD, set, take, drop, length-set, length-take, length-drop, length-map}
+use borrow.Author.Tests.{eqb-false, ltb-true}
 use Rattle.frame.proofs.FrameLaws.{build-length}
 use Rattle.frame.specs.Frame.{dataOf, marked, even}
+use Rattle.frame.specs.declared.reason.Reason.{Reason}
+use Rattle.frame.specs.declared.reason.Reason.the-variants.{Nothing, Accepted, Crc, Marked, Parity}
 use Rattle.end.specs.declared.End.{End}
 use Rattle.end.specs.declared.Collector.{Collector}
+use Rattle.end.specs.declared.Counts.{Counts}
 use Rattle.end.specs.declared.Inbox.{Inbox}
+use Rattle.end.specs.Counting.{most, more, tallied, listed}
 use Rattle.end.specs.Good.{above, resetOf}
 use Rattle.end.specs.Sending.{tenBytes, frameStart, started}
-use Rattle.end.specs.Taking.{placed, counted, saidBy, settled, accepts, enters, entered, taken}
+use Rattle.end.specs.Taking.{placed, counted, saidBy, settled, accepts, reasonBy, enters, entered, taken}
 use Rattle.end.specs.Registers.{written}
 use Rattle.endlaws.specs.Calls.{Call, after}
 use Rattle.endlaws.specs.Shape.{Shaped}
-use Rattle.endlaws.proofs.Base.{either, above-set, above-data}
+use Rattle.endlaws.proofs.Base.{either, above-getD, above-set, above-data}
 use Rattle.endlaws.proofs.Done.{after-keeps}
 
 pub reset-shaped : Shaped resetOf
@@ -75,6 +80,21 @@ entered-below : (b : Bool) (l : List ℕ) (i : Inbox) → above 255 (i .bytes) �
 entered-below true l i k = above-data (take 8 (drop 2 l))
 entered-below false l i k = k
 
+-- a count stays one of sixteen bits, and so do all four
+more-below : (n : ℕ) → n ≤ most → more n ≤ most
+more-below n h = either (λ (m : ℕ). m ≤ most) (ltb n most) (n + 1) n (λ t. omega (arith, ltb-true n most t)) (λ _. h)
+
+one-more : (l : List ℕ) (i : ℕ) → above most l ≡ false → above most (set l i (more (getD l i 0))) ≡ false
+one-more l i h = above-set most l i (more (getD l i 0)) (more-below (getD l i 0) (above-getD most l i h)) h
+
+tallied-below : (r : Reason) (k : Counts) → above most (listed k) ≡ false → above most (listed (tallied r k)) ≡ false
+unfolding tallied
+tallied-below Nothing k h = h
+tallied-below Accepted k h = one-more (listed k) 0 h
+tallied-below Crc k h = one-more (listed k) 1 h
+tallied-below (Marked n) k h = one-more (listed k) 2 h
+tallied-below (Parity n) k h = one-more (listed k) 3 h
+
 -- whether the message of the frame that s completes enters
 abbrev pub entersNow : ℕ → End → Bool
 entersNow s e = enters (accepts s (e .collector)) (saidBy (placed s (e .collector))) (settled e)
@@ -90,6 +110,7 @@ taken-shaped s e h = record {
       (placed-length s (e .collector) (h .collecting)) (h .eight-in);
   bytes-out = h .bytes-out;
   bytes-in = entered-below (entersNow s e) (placed s (e .collector)) (settled e) (h .bytes-in);
+  counts = tallied-below (reasonBy s (e .collector)) (e .counts) (h .counts);
 }
 
 bytes-length : (l : List ℕ) (i j x y : ℕ) → length l ≡ 8 → length (set (set l i x) j y) ≡ 8
@@ -112,6 +133,7 @@ written-shaped e r v k h = record {
       either (λ (l : List ℕ). above 255 l ≡ false) (eqb r 2308) _ _ (λ _. h .bytes-out)
       (λ _. bytes-below (e .outbox .bytes) _ _ v k (h .bytes-out));
   bytes-in = h .bytes-in;
+  counts = h .counts;
 }
 
 pub after-shaped : (c : Call) (e : End) → Shaped e → Shaped (after c e)

@@ -1,5 +1,5 @@
--- Closed cases that guard the definitions of Taken.antt and Reasons.antt: P11 of document 01, P1's frame taken after
--- reset, and collections that end in each way.
+-- Closed cases that guard the definitions of Taken.antt, Reasons.antt and Counted.antt: P11 of document 01, P1's frame
+-- taken after reset, collections that end in each way, and how they are counted.
 -- Assumes nothing.
 use Prim.Native.Nat.{ℕ}
 use mathlib.Core.Bool.{xor}
@@ -10,11 +10,15 @@ use Rattle.frame.specs.Bits.{odd, bits, number, oddOnes}
 use Rattle.frame.specs.Crc.{plus, times, shift, run, crc}
 use Rattle.frame.specs.Frame.{generator, stream, crcOf, even, crcRight}
 use Rattle.frame.specs.declared.reason.Reason.{Reason}
+use Rattle.frame.specs.declared.reason.Reason.the-variants.{Nothing, Accepted, Crc, Marked, Parity}
 use Rattle.frame.specs.Reason.{reasonNumber, placeOf}
+use Rattle.end.specs.declared.End.{End}
+use Rattle.end.specs.Counting.{noCounts, tallied, listed}
 use Rattle.end.specs.Good.{above, bad, resetOf}
 use Rattle.end.specs.Taking.{taken, takeOf}
 use Rattle.end.specs.Registers.{readOf}
-use Rattle.endlaws.specs.Calls.{Call}
+use Rattle.endlaws.specs.Calls.{Call, calls, reached}
+use Rattle.endlaws.specs.Counted.{howMany, grown}
 use Rattle.endlaws.specs.Reasons.{reasons}
 use Rattle.endlaws.specs.Taken.{takes, lastTwelve, acceptances, atLast}
 
@@ -58,3 +62,34 @@ all-reasons : map numbers (reasons (breaks ++ twelfths) resetOf)
 unfolding breaks twelfths reasons odd bits oddOnes number plus times shift run crc generator stream crcOf even crcRight
     above bad taken takeOf readOf xor
 all-reasons = refl
+
+-- each way as often as the reason's number: the mark with which the second round begins breaks what the first one left
+wrong : List Call
+wrong = map Call.take (0x000 ∷ replicate 10 0x100 ++ (0x001 ∷ []))
+
+counted : listed (reached (breaks ++ breaks ++ twelfths ++ wrong) .counts) ≡ 1 ∷ 2 ∷ 3 ∷ 4 ∷ []
+unfolding breaks twelfths wrong reached calls tallied odd bits oddOnes number plus times shift run crc generator stream
+    crcOf even crcRight above bad taken takeOf readOf xor
+counted = refl
+
+-- a count stops at 65,535, and stays there
+nearly : End
+nearly = record {
+  sender = resetOf .sender;
+  outbox = resetOf .outbox;
+  collector = resetOf .collector;
+  heard = resetOf .heard;
+  inbox = resetOf .inbox;
+  counts = record { accepted = 65535; crc = 65534; marked = 65533; early = 65534 };
+}
+
+stopped : listed (calls (breaks ++ breaks ++ twelfths ++ wrong) nearly .counts) ≡ 65535 ∷ 65535 ∷ 65535 ∷ 65535 ∷ []
+unfolding breaks twelfths wrong nearly calls tallied odd bits oddOnes number plus times shift run crc generator stream
+    crcOf even crcRight above bad taken takeOf readOf xor
+stopped = refl
+
+-- the reasons that are counted, each for its own count
+by-kind : grown noCounts (Accepted ∷ Crc ∷ Crc ∷ Nothing ∷ Parity 3 ∷ Marked 2 ∷ Crc ∷ Parity 1 ∷ [])
+    ≡ record { accepted = 1; crc = 3; marked = 1; early = 2 }
+unfolding howMany
+by-kind = refl

@@ -36,6 +36,7 @@ endAs e k o i = record {
   collector = e .collector;
   heard = e .heard;
   inbox = i;
+  counts = e .counts;
 }
 
 abbrev pub hostedAs : Side → End → Host → List Message → List Message → Side

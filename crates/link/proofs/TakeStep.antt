@@ -12,7 +12,8 @@ use native.Mathlib.Omega.{arith}
 use lib.ListN.{length, length-append}
 use Rattle.frame.specs.Frame.{build}
 use Rattle.end.specs.Good.{bad}
-use Rattle.end.specs.Taking.{settled, placed, saidBy, accepts, enters, entered, pickHeard, collected, taken}
+use Rattle.end.specs.Counting.{tallied}
+use Rattle.end.specs.Taking.{settled, placed, saidBy, accepts, reasonBy, enters, entered, pickHeard, collected, taken}
 use Rattle.endlaws.specs.Shape.{Shaped}
 use Rattle.endlaws.proofs.Done.{take-good}
 use Rattle.protocol.specs.Steps.{num}
@@ -50,6 +51,7 @@ tookBy t n s b = record {
     collector = collected s (b .end .collector);
     heard = pickHeard t (saidBy (placed s (b .end .collector))) (b .end .heard);
     inbox = entered n (placed s (b .end .collector)) (settled (b .end));
+    counts = tallied (reasonBy s (b .end .collector)) (b .end .counts);
   };
   sent = b .sent;
   host = b .host;

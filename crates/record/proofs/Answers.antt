@@ -1,12 +1,12 @@
 -- The answer table through records, for every call and whatever the bytes are.
---   wrong-refused   what answer 11 meets, spelled out
+--   wrong-refused   what answer 11 meets, spelled out; wrong-one-refused, of version 1
 --   call-11         11 exactly when the record is wrong
 --   call-n          any other number exactly when it is not, and the call on its end gives that number
 --   call-never-1    1 is never given: an end that it would meet is answered 11
 --   call-refused    any number but 0: the value is 0 and every byte is as it was
 --   reset-11, reset-0, reset-refused   the same of reset, which asks only for an area of the right size
 -- Assumes nothing.
-use Prim.Native.Nat.{ℕ, suc, _<_, _≤_}
+use Prim.Native.Nat.{ℕ, suc, _+_, _<_, _≤_}
 use mathlib.Core.Bool.{Bool, true, false, cond, true≢false, false≢true}
 use mathlib.Core.List.{List, [], _∷_}
 use mathlib.Core.Logic.{_↔_}
@@ -32,7 +32,8 @@ use Rattle.endlaws.proofs.Answers.{bad-met, send-1, take-1, read-1, write-1, he
 use Rattle.endlaws.proofs.Answers.{send-refused, take-refused, read-refused, write-refused, health-refused}
 use Rattle.endlaws.proofs.Base.{or-cases}
 use Rattle.endlaws.proofs.Decide.{Decides, decides-iff, hit, skip, pass, never}
-use Rattle.record.specs.Record.{size, recordOf, endOf, exceeds, refusedBy, refused, Wrong}
+use Rattle.record.specs.Record.{size, version, sizeOne, versionOne, bodyOne, bodyOf, recordOf, endOf, largest}
+use Rattle.record.specs.Record.{exceeds, refusedBy, refused, refusedOne, WrongBy, Wrong, WrongOne}
 use Rattle.record.specs.Calls.{Result, Called, through, resetting, badRecord, stored}
 use Rattle.record.specs.Runs.{result, called}
 use Rattle.record.proofs.Accepted.{fits, most, accepted-back, accepted-good}
@@ -119,31 +120,44 @@ exceeds-some (x ∷ l) [] f h = absurd (false≢true h)
 exceeds-some (x ∷ l) (y ∷ m) f h =
     or-cases (ltb y x) (exceeds l m) (λ t. f 0 (ltb-true y x t)) (exceeds-some l m (λ i k. f (suc i) k)) h
 
-wrong-holds : (r : List ℕ) → refused r ≡ true → Wrong r
-unfolding refusedBy
-wrong-holds r =
-    or-cases _ _
-    (or-cases _ _ (λ t. Wrong.area (eqb-false _ _ (not-true _ t))) (λ t. Wrong.said (eqb-false _ _ (not-true _ t))))
-    (or-cases _ _ (λ t. Wrong.unknown (eqb-false _ _ (not-true _ t)))
-    (exceeds-some (drop 3 r) _ (λ i k. Wrong.value i (rw (sym (getD-drop 3 r i 0)) k))))
+module _ (n v : ℕ) (m : List ℕ) (long : 3 + length m ≡ n) where
+  wrong-holds : (r : List ℕ) → refusedBy n v m r ≡ true → WrongBy n v m r
+  unfolding refusedBy
+  wrong-holds r =
+      or-cases _ _
+      (or-cases _ _ (λ t. WrongBy.area (eqb-false _ _ (not-true _ t)))
+      (λ t. WrongBy.said (eqb-false _ _ (not-true _ t))))
+      (or-cases _ _ (λ t. WrongBy.unknown (eqb-false _ _ (not-true _ t)))
+      (exceeds-some (drop 3 r) _ (λ i k. WrongBy.value i (rw (sym (getD-drop 3 r i 0)) k))))
 
-wrong-fails : (r : List ℕ) → refused r ≡ false → ¬ Wrong r
-wrong-fails r h (Wrong.area k) = k (fits r h .long)
-wrong-fails r h (Wrong.said k) = k (fits r h .said)
-wrong-fails r h (Wrong.unknown k) = k (fits r h .known)
-wrong-fails r h (Wrong.value i k) = above-not k (most r (fits r h) i)
-  where
-    above-not : {a b : ℕ} → a < b → b ≤ a → ⊥
-    above-not p q = omega arith
+  wrong-fails : (r : List ℕ) → refusedBy n v m r ≡ false → ¬ WrongBy n v m r
+  wrong-fails r h (WrongBy.area k) = k (fits n v m r h .long)
+  wrong-fails r h (WrongBy.said k) = k (fits n v m r h .said)
+  wrong-fails r h (WrongBy.unknown k) = k (fits n v m r h .known)
+  wrong-fails r h (WrongBy.value i k) = above-not k (most n v m r long (fits n v m r h) i)
+    where
+      above-not : {a b : ℕ} → a < b → b ≤ a → ⊥
+      above-not p q = omega arith
 
-wrong : (r : List ℕ) → Decides (refused r) (Wrong r)
-wrong r = record { holds = wrong-holds r; fails = wrong-fails r }
+  wrong-by : (r : List ℕ) → Decides (refusedBy n v m r) (WrongBy n v m r)
+  wrong-by r = record { holds = wrong-holds r; fails = wrong-fails r }
+
+pub wrong : (r : List ℕ) → Decides (refused r) (Wrong r)
+unfolding bodyOne bodyOf
+wrong = wrong-by size version (bodyOf largest) refl
+
+pub wrong-one : (r : List ℕ) → Decides (refusedOne r) (WrongOne r)
+unfolding bodyOne
+wrong-one = wrong-by sizeOne versionOne (bodyOne largest) refl
 
 pub wrong-refused : (r : List ℕ) → (refused r ≡ true) ↔ Wrong r
 wrong-refused r = decides-iff (wrong r)
 
+pub wrong-one-refused : (r : List ℕ) → (refusedOne r ≡ true) ↔ WrongOne r
+wrong-one-refused r = decides-iff (wrong-one r)
+
 not-refused : (r : List ℕ) → ¬ Wrong r → refused r ≡ false
-not-refused r h = go (refused r) (λ t. h (wrong-holds r t))
+not-refused r h = go (refused r) (λ t. h (wrong r .holds t))
   where
     go : (b : Bool) → ¬ (b ≡ true) → b ≡ false
     go true k = absurd (k refl)

@@ -10,6 +10,8 @@ use Rattle.record.proofs.read.Reads as read
 use Rattle.record.proofs.write.Reads as write
 use Rattle.record.proofs.set_health.Reads as set-health
 use Rattle.record.proofs.present.Reads as present
+use Rattle.record.proofs.upgrade.Reads as upgrade
+use Rattle.record.proofs.counts.Reads as counts
 
 -- two results that the contract Q allows for the same lifetimes and arguments are one, whatever parameters are at exit
 abbrev pub Same : {K : Type 0} {A R S : K → Type 0} → ((κs : K) → A κs → R κs → S κs → Type 0) → Type 0
@@ -38,3 +40,9 @@ set-health-identical κs a x y s t e f = e .0 ∙ sym (f .0)
 
 pub present-identical : Same present.Post
 present-identical κs a x y s t e f = e ∙ sym f
+
+pub upgrade-identical : Same upgrade.Post
+upgrade-identical κs a x y s t e f = e .0 ∙ sym (f .0)
+
+pub counts-identical : Same counts.Post
+counts-identical κs a x y s t e f = e ∙ sym f

@@ -5,5 +5,6 @@ pub mod Written
 pub mod Accepted
 pub mod Answers
 pub mod Through
+pub mod Versions
 pub mod Identical
 pub mod Cases

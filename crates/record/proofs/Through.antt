@@ -61,7 +61,7 @@ refused-call : (f : End → Result) (r : List ℕ) → refused r ≡ true → th
 unfolding through
 refused-call f r h = rw h
 
-abbrev Gives : Called → Answer → ℕ → End → Type 0
+abbrev pub Gives : Called → Answer → ℕ → End → Type 0
 Gives c a v e = c ≡ record { reply = record { answer = a; value = v }; bytes = recordOf e }
 
 pub send-record : (r : List ℕ) → refused r ≡ false
@@ -123,7 +123,7 @@ reset-record r h = rw (eq-eqb (length r) size h)
 
 -- Lists of calls
 
-after-end : (c : Call) (e : End) → result c e .end ≡ after c e
+pub after-end : (c : Call) (e : End) → result c e .end ≡ after c e
 after-end send e = refl
 after-end (take s) e = refl
 after-end (read r) e = refl

@@ -1,13 +1,18 @@
 -- The calls on a record: each is the call on the record's end.
 --   Result            what a call on an end gives, in one shape for all: the answer; the symbol of a send, the value of
 --                     a read, 1 for present, else 0; and the next end
---   sending, taking, reading, writing, settingHealth, presence   the calls of document 01 in that shape
+--   sending, taking, reading, writing, settingHealth, presence   the calls of document 01 in that shape; moved, where
+--                     there is no value
 --   Called            what a call on a record gives: the reply, and every byte of the record after it
+--   badRecord r       answer 11, and the bytes as they were; stored x, the answer of x, and the record of its end
 --   through f r       the call f on the record r: answer 11 and the bytes as they were, or the call on its end
 --   reasonThrough s r   request #105: what becomes of the collection of the record r with the symbol s; nothing is said
 --                     of a record that is refused
 --   toldBy s r        that, with the answer of taking s
---   resetting r       reset, which asks only for an area of the right size
+--   filled e a        the area a filled with the record of e, where it has the right size
+--   resetting a       reset, which asks only for an area of the right size
+--   upgrading r a     request #106: the area a filled with the record of the end of r, a record of version 1
+--   countsBy r        the counts of the record r; all 0 where it is refused
 -- Assumes nothing.
 use Prim.Native.Nat.{ℕ}
 use mathlib.Core.Bool.{cond}
@@ -20,20 +25,21 @@ use Rattle.frame.specs.declared.reason.Reason.{Reason}
 use Rattle.frame.specs.declared.reason.Reason.the-variants.{Nothing}
 use Rattle.end.specs.declared.End.{End}
 use Rattle.end.specs.declared.Next.{Next}
+use Rattle.end.specs.Counting.{noCounts}
 use Rattle.end.specs.Good.{resetOf, presentOf}
 use Rattle.end.specs.Sending.{sendOf}
 use Rattle.end.specs.Taking.{takeOf}
 use Rattle.end.specs.Registers.{readOf, writeOf, healthOf}
 use Rattle.record.specs.declared.Reply.{Reply}
 use Rattle.record.specs.declared.Told.{Told}
-use Rattle.record.specs.Record.{size, flag, recordOf, endOf, refused}
+use Rattle.record.specs.declared.Counted.{Counted}
+use Rattle.record.specs.Record.{size, flag, recordOf, endOf, endOne, refused, refusedOne}
 
 pub record Result : Type 0 where
   pub answer : Answer
   pub value : ℕ
   pub end : End
 
--- where there is no value
 abbrev pub moved : Next → Result
 moved n = record { answer = n .answer; value = 0; end = n .end }
 
@@ -77,6 +83,17 @@ reasonThrough s r = cond (refused r) Nothing (takeOf (endOf r) s .reason)
 abbrev pub toldBy : ℕ → List ℕ → Told
 toldBy s r = record { answer = through (taking s) r .reply .answer; reason = reasonThrough s r }
 
+abbrev pub filled : End → List ℕ → Called
+filled e a = cond (eqb (length a) size) (stored (record { answer = Done; value = 0; end = e })) (badRecord a)
+
 unfoldable pub resetting : List ℕ → Called
-resetting r =
-    cond (eqb (length r) size) (stored (record { answer = Done; value = 0; end = resetOf })) (badRecord r)
+resetting a = filled resetOf a
+
+unfoldable pub upgrading : List ℕ → List ℕ → Called
+upgrading r a = cond (refusedOne r) (badRecord a) (filled (endOne r) a)
+
+unfoldable pub countsBy : List ℕ → Counted
+countsBy r =
+    cond (refused r)
+    (record { answer = BadRecord; counts = noCounts })
+    (record { answer = Done; counts = endOf r .counts })

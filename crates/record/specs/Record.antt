@@ -1,19 +1,24 @@
--- Request #104 of document 02: the record of an end, and the end of a record. docs/RECORD.md has the offsets.
---   size, version    of a record as it is written now
+-- Requests #104 and #106 of document 02: the record of an end, and the end of a record. docs/RECORD.md has the offsets.
+--   size, version    of a record as it is written now; sizeOne, versionOne, of one as it was before #106
 --   two n, twos l    a number in two bytes, the high byte first; a list of them
 --   flag b           a bool's byte
 --   headOf n v       a record's head: two bytes of length, counting the whole record, and the version
---   bodyOf e         the end e, field by field
---   recordOf e       the record of e
+--   bodyOne e        the end e, field by field, without its counts; bodyOf e, with them
+--   recordOf e       the record of e; recordOne e, its record of version 1
 --   at r i           byte i of r
---   flagAt, bytesAt  a bool, and so many bytes, from there on
+--   flagAt, bytesAt  a bool, and so many bytes, from there on; twoAt, a number of two bytes
 --   pairs l          the numbers of which l is twos
---   endOf r          the end of the record r
+--   endWith k r      the end that has its parts from the record r, and the counts k
+--   endOf r          the end of the record r; endOne r, of the record r of version 1: all counts are 0
 --   largest          the end in which each field has the largest value that is in its range
 --   exceeds l m      some byte of l is above the one of m in its place
---   refused r        what answer 11 meets: a wrong length, an unknown version or a value out of range
+--   refusedBy n v m r   of a record of n bytes and version v, with the limits m: wrongLength, unknownVersion or
+--                    outOfRange
+--   refused r        what answer 11 meets: a wrong length, an unknown version or a value out of range; refusedOne r,
+--                    the same of version 1
 --   Wrong r          the same in plain terms: the area is not of a record's size, its length bytes say another length,
---                    its version is another, or some byte behind the head is above the largest for its place
+--                    its version is another, or some byte behind the head is above the largest for its place;
+--                    WrongOne r, the same of version 1; WrongBy n v m r, of any
 -- Assumes nothing.
 use Prim.Native.Nat.{ℕ, _+_, _*_, _/_, _%_, _<_}
 use mathlib.Core.Bool.{Bool, true, false, not, _||_}
@@ -27,12 +32,20 @@ use Rattle.end.specs.declared.Outbox.{Outbox}
 use Rattle.end.specs.declared.Collector.{Collector}
 use Rattle.end.specs.declared.Heard.{Heard}
 use Rattle.end.specs.declared.Inbox.{Inbox}
+use Rattle.end.specs.declared.Counts.{Counts}
+use Rattle.end.specs.Counting.{noCounts, listed}
 
 abbrev pub size : ℕ
-size = 92
+size = 100
 
 abbrev pub version : ℕ
-version = 1
+version = 2
+
+abbrev pub sizeOne : ℕ
+sizeOne = 92
+
+abbrev pub versionOne : ℕ
+versionOne = 1
 
 -- The record of an end
 
@@ -71,16 +84,22 @@ abbrev pub inboxBytes : Inbox → List ℕ
 inboxBytes i =
     flag (i .expected) ∷ flag (i .acknowledge) ∷ flag (i .full) ∷ flag (i .toggle) ∷ i .number ∷ i .bytes
 
-unfoldable pub bodyOf : End → List ℕ
-bodyOf e =
+unfoldable pub bodyOne : End → List ℕ
+bodyOne e =
     senderBytes (e .sender)
     ++ (outboxBytes (e .outbox)
     ++ (collectorBytes (e .collector)
     ++ (heardBytes (e .heard)
     ++ inboxBytes (e .inbox))))
 
+unfoldable pub bodyOf : End → List ℕ
+bodyOf e = bodyOne e ++ twos (listed (e .counts))
+
 unfoldable pub recordOf : End → List ℕ
 recordOf e = headOf size version ++ bodyOf e
+
+unfoldable pub recordOne : End → List ℕ
+recordOne e = headOf sizeOne versionOne ++ bodyOne e
 
 -- The end of a record
 
@@ -89,6 +108,9 @@ at r i = getD r i 0
 
 abbrev pub flagAt : List ℕ → ℕ → Bool
 flagAt r i = eqb (at r i) 1
+
+abbrev pub twoAt : List ℕ → ℕ → ℕ
+twoAt r i = 256 * at r i + at r (i + 1)
 
 abbrev pub bytesAt : List ℕ → ℕ → ℕ → List ℕ
 bytesAt r i n = take n (drop i r)
@@ -144,14 +166,24 @@ inboxOf r = record {
   bytes = bytesAt r 84 8;
 }
 
-unfoldable pub endOf : List ℕ → End
-endOf r = record {
+abbrev pub countsOf : List ℕ → Counts
+countsOf r = record { accepted = twoAt r 92; crc = twoAt r 94; marked = twoAt r 96; early = twoAt r 98 }
+
+abbrev pub endWith : Counts → List ℕ → End
+endWith k r = record {
   sender = senderOf r;
   outbox = outboxOf r;
   collector = collectorOf r;
   heard = heardOf r;
   inbox = inboxOf r;
+  counts = k;
 }
+
+unfoldable pub endOf : List ℕ → End
+endOf r = endWith (countsOf r) r
+
+unfoldable pub endOne : List ℕ → End
+endOne r = endWith noCounts r
 
 -- Answer 11
 
@@ -186,6 +218,7 @@ largest = record {
     number = 15;
     bytes = replicate 8 255;
   };
+  counts = record { accepted = 65535; crc = 65535; marked = 65535; early = 65535 };
 }
 
 unfoldable pub exceeds : List ℕ → List ℕ → Bool
@@ -193,9 +226,9 @@ exceeds [] m = false
 exceeds (x ∷ l) [] = false
 exceeds (x ∷ l) (y ∷ m) = ltb y x || exceeds l m
 
--- for a record of n bytes and version v, where m has the largest value of each byte behind the head
+-- where m has the largest value of each byte behind the head
 abbrev pub wrongLength : ℕ → List ℕ → Bool
-wrongLength n r = not (eqb (length r) n) || not (eqb (256 * at r 0 + at r 1) n)
+wrongLength n r = not (eqb (length r) n) || not (eqb (twoAt r 0) n)
 
 abbrev pub unknownVersion : ℕ → List ℕ → Bool
 unknownVersion v r = not (eqb (at r 2) v)
@@ -209,9 +242,18 @@ refusedBy n v m r = wrongLength n r || (unknownVersion v r || outOfRange m r)
 abbrev pub refused : List ℕ → Bool
 refused r = refusedBy size version (bodyOf largest) r
 
+abbrev pub refusedOne : List ℕ → Bool
+refusedOne r = refusedBy sizeOne versionOne (bodyOne largest) r
+
 -- the same in plain terms
-pub data Wrong (r : List ℕ) : Type 0 where
-  area : ¬ (length r ≡ size) → Wrong r
-  said : ¬ (256 * at r 0 + at r 1 ≡ size) → Wrong r
-  unknown : ¬ (at r 2 ≡ version) → Wrong r
-  value : (i : ℕ) → at (bodyOf largest) i < at r (3 + i) → Wrong r
+pub data WrongBy (n v : ℕ) (m r : List ℕ) : Type 0 where
+  area : ¬ (length r ≡ n) → WrongBy n v m r
+  said : ¬ (twoAt r 0 ≡ n) → WrongBy n v m r
+  unknown : ¬ (at r 2 ≡ v) → WrongBy n v m r
+  value : (i : ℕ) → at m i < at r (3 + i) → WrongBy n v m r
+
+abbrev pub Wrong : List ℕ → Type 0
+Wrong r = WrongBy size version (bodyOf largest) r
+
+abbrev pub WrongOne : List ℕ → Type 0
+WrongOne r = WrongBy sizeOne versionOne (bodyOne largest) r

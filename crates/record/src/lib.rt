@@ -1,26 +1,37 @@
 // Request #104: an end that the C side keeps, as a record in bytes that it lends to each call. A call looks the record
 // over, reads its end, makes the call of crate `end` and writes the next end back. docs/RECORD.md has the offsets.
+// Request #106: the counts, and the records of before, which have none.
+mod limits;
 mod reading;
 mod refusing;
 mod writing;
 
 use answer::Answer;
+use end::Counts;
 use end::End;
 use end::Next;
 use frame::reason::Reason;
 use reading::end_of;
+use reading::end_of_one;
 use refusing::refused;
+use refusing::refused_one;
 use writing::put_end;
 ghost use mathlib.Core.Path.{_≡_};
 ghost use lib.ListN.{length};
 ghost use Rattle.record.specs.Record.{size};
-ghost use Rattle.record.specs.Calls.{through, toldBy, resetting, badReply, moved, stored};
+ghost use Rattle.record.specs.Calls.{through, toldBy, filled, resetting, upgrading, countsBy, badReply, moved};
+ghost use Rattle.record.specs.Calls.{stored};
 ghost use Rattle.record.specs.Calls.{sending, taking, reading, writing, settingHealth, presence};
 
 // How long a record is, and its version.
-pub const SIZE: usize = 92;
+pub const SIZE: usize = 100;
 
-pub const VERSION: u8 = 1;
+pub const VERSION: u8 = 2;
+
+// The same of the records of before, which an upgrade alone reads.
+const SIZE_ONE: usize = 92;
+
+const VERSION_ONE: u8 = 1;
 
 // What a call gives: its answer, and the symbol of a send, the value of a read, 1 for present; else 0.
 pub struct Reply {
@@ -34,20 +45,32 @@ pub struct Told {
     pub reason: Reason,
 }
 
+// What asking for the counts gives: the answer, and the counts, all 0 where it is refused.
+pub struct Counted {
+    pub answer: Answer,
+    pub counts: Counts,
+}
+
 // Fills an area of the right size with the record of an end just reset. What was there does not matter.
 pub fn reset(area: &mut [u8]) -> Reply
     ensures { λ r. ⌜ r ≡ resetting (now (area .entry)) .reply ⌝ }
     ensures { λ _. ⌜ now (area .exit) ≡ resetting (now (area .entry)) .bytes ⌝ }
 {
-    if area.len() != SIZE {
+    let fresh = End::reset();
+    fill(area, fresh)
+}
+
+// Fills an area of the right size with the record of the end that an old one, of version 1, is the record of. The old
+// one is only read.
+pub fn upgrade(old: &[u8], area: &mut [u8]) -> Reply
+    ensures { λ r. ⌜ r ≡ upgrading (now (old .entry)) (now (area .entry)) .reply ⌝ }
+    ensures { λ _. ⌜ now (area .exit) ≡ upgrading (now (old .entry)) (now (area .entry)) .bytes ⌝ }
+{
+    if refused_one(old) {
         return bad_record();
     }
-    let fresh = End::reset();
-    put_end(area, fresh);
-    Reply {
-        answer: Answer::Done,
-        value: 0,
-    }
+    let end = end_of_one(old);
+    fill(area, end)
 }
 
 // The symbol of this slot.
@@ -156,6 +179,44 @@ pub fn present(area: &[u8]) -> Reply
     Reply {
         answer: Answer::Done,
         value: there as u16,
+    }
+}
+
+// The counts. The record is only read.
+pub fn counts(area: &[u8]) -> Counted
+    ensures { λ r. ⌜ r ≡ countsBy (now (area .entry)) ⌝ }
+{
+    if refused(area) {
+        return Counted {
+            answer: Answer::BadRecord,
+            counts: Counts {
+                accepted: 0,
+                crc: 0,
+                marked: 0,
+                early: 0,
+            },
+        };
+    }
+    let end = end_of(area);
+    let counts = end.counts;
+    Counted {
+        answer: Answer::Done,
+        counts,
+    }
+}
+
+// The record of the end, in an area of the right size.
+fn fill(area: &mut [u8], given: End) -> Reply
+    ensures { λ r. ⌜ r ≡ filled given (now (area .entry)) .reply ⌝ }
+    ensures { λ _. ⌜ now (area .exit) ≡ filled given (now (area .entry)) .bytes ⌝ }
+{
+    if area.len() != SIZE {
+        return bad_record();
+    }
+    put_end(area, given);
+    Reply {
+        answer: Answer::Done,
+        value: 0,
     }
 }
 

@@ -1,20 +1,44 @@
 // The end of a record.
 use end::Collector;
+use end::Counts;
 use end::End;
 use end::Heard;
 use end::Inbox;
 use end::Outbox;
 use end::Sender;
 ghost use mathlib.Core.Path.{_≡_};
-ghost use Prim.Native.Nat.{_≤_};
+ghost use Prim.Native.Nat.{_+_, _≤_, _<_};
 ghost use lib.ListN.{length};
-ghost use Rattle.record.specs.Record.{size, endOf, senderOf, outboxOf, collectorOf, heardOf, inboxOf};
-ghost use Rattle.record.specs.Record.{pairs};
+ghost use Rattle.record.specs.Record.{size, sizeOne, endOf, endOne, endWith, twoAt, pairs};
+ghost use Rattle.record.specs.Record.{senderOf, outboxOf, collectorOf, heardOf, inboxOf, countsOf};
 
-// Part by part.
+// The end of a record as it is written now.
 pub fn end_of(area: &[u8]) -> End
     requires { ⌜ length (now area) ≡ size ⌝ }
     ensures { λ r. ⌜ r ≡ endOf (now (area .entry)) ⌝ }
+{
+    let counts = counts_of(area);
+    end_with(counts, area)
+}
+
+// The end of a record of version 1: all counts are 0.
+pub fn end_of_one(area: &[u8]) -> End
+    requires { ⌜ length (now area) ≡ sizeOne ⌝ }
+    ensures { λ r. ⌜ r ≡ endOne (now (area .entry)) ⌝ }
+{
+    let counts = Counts {
+        accepted: 0,
+        crc: 0,
+        marked: 0,
+        early: 0,
+    };
+    end_with(counts, area)
+}
+
+// Part by part. All but the counts stand where they stood in version 1.
+fn end_with(counts: Counts, area: &[u8]) -> End
+    requires { ⌜ sizeOne ≤ length (now area) ⌝ }
+    ensures { λ r. ⌜ r ≡ endWith counts (now (area .entry)) ⌝ }
 {
     let sender = sender_of(area);
     let outbox = outbox_of(area);
@@ -27,11 +51,12 @@ pub fn end_of(area: &[u8]) -> End
         collector,
         heard,
         inbox,
+        counts,
     }
 }
 
 fn sender_of(area: &[u8]) -> Sender
-    requires { ⌜ length (now area) ≡ size ⌝ }
+    requires { ⌜ sizeOne ≤ length (now area) ⌝ }
     ensures { λ r. ⌜ r ≡ senderOf (now (area .entry)) ⌝ }
 {
     let symbols = symbols_of(&area[3..27]);
@@ -46,7 +71,7 @@ fn sender_of(area: &[u8]) -> Sender
 }
 
 fn outbox_of(area: &[u8]) -> Outbox
-    requires { ⌜ length (now area) ≡ size ⌝ }
+    requires { ⌜ sizeOne ≤ length (now area) ⌝ }
     ensures { λ r. ⌜ r ≡ outboxOf (now (area .entry)) ⌝ }
 {
     let bytes = eight_of(&area[38..46]);
@@ -62,7 +87,7 @@ fn outbox_of(area: &[u8]) -> Outbox
 }
 
 fn collector_of(area: &[u8]) -> Collector
-    requires { ⌜ length (now area) ≡ size ⌝ }
+    requires { ⌜ sizeOne ≤ length (now area) ⌝ }
     ensures { λ r. ⌜ r ≡ collectorOf (now (area .entry)) ⌝ }
 {
     let symbols = symbols_of(&area[46..70]);
@@ -73,7 +98,7 @@ fn collector_of(area: &[u8]) -> Collector
 }
 
 fn heard_of(area: &[u8]) -> Heard
-    requires { ⌜ length (now area) ≡ size ⌝ }
+    requires { ⌜ sizeOne ≤ length (now area) ⌝ }
     ensures { λ r. ⌜ r ≡ heardOf (now (area .entry)) ⌝ }
 {
     Heard {
@@ -89,7 +114,7 @@ fn heard_of(area: &[u8]) -> Heard
 }
 
 fn inbox_of(area: &[u8]) -> Inbox
-    requires { ⌜ length (now area) ≡ size ⌝ }
+    requires { ⌜ sizeOne ≤ length (now area) ⌝ }
     ensures { λ r. ⌜ r ≡ inboxOf (now (area .entry)) ⌝ }
 {
     let bytes = eight_of(&area[84..92]);
@@ -103,7 +128,27 @@ fn inbox_of(area: &[u8]) -> Inbox
     }
 }
 
-// Twelve symbols of two bytes each, the high byte first.
+fn counts_of(area: &[u8]) -> Counts
+    requires { ⌜ length (now area) ≡ size ⌝ }
+    ensures { λ r. ⌜ r ≡ countsOf (now (area .entry)) ⌝ }
+{
+    Counts {
+        accepted: two_at(area, 92),
+        crc: two_at(area, 94),
+        marked: two_at(area, 96),
+        early: two_at(area, 98),
+    }
+}
+
+// A number of two bytes, the high byte first.
+fn two_at(area: &[u8], at: usize) -> u16
+    requires { ⌜ at + 1 < length (now area) ⌝ }
+    ensures { λ r. ⌜ r ≡ twoAt (now (area .entry)) at ⌝ }
+{
+    256 * wide(area[at]) + wide(area[at + 1])
+}
+
+// Twelve symbols of two bytes each, likewise.
 fn symbols_of(bytes: &[u8]) -> [u16; 12]
     requires { ⌜ length (now bytes) ≡ 24 ⌝ }
     ensures { λ r. ⌜ r ≡ pairs (now (bytes .entry)) ⌝ }

@@ -1,74 +1,28 @@
 // Answer 11: a wrong length, an unknown version or a value out of range.
 use crate::SIZE;
+use crate::SIZE_ONE;
 use crate::VERSION;
-use crate::writing::put_end;
-use end::Collector;
-use end::End;
-use end::Heard;
-use end::Inbox;
-use end::Outbox;
-use end::Sender;
+use crate::VERSION_ONE;
+use crate::limits::limits;
 ghost use mathlib.Core.Path.{_≡_};
 ghost use Prim.Native.Nat.{_+_, _≤_};
 ghost use lib.ListN.{length};
-ghost use Rattle.record.specs.Record.{largest, exceeds, refusedBy, refused};
+ghost use Rattle.record.specs.Record.{exceeds, refusedBy, refused, refusedOne};
 
 // A record that is not of this size and version, or has a value out of range.
 pub fn refused(area: &[u8]) -> bool
     ensures { λ r. ⌜ r ≡ refused (now (area .entry)) ⌝ }
 {
-    let end = largest();
-    let mut limits = [0u8; SIZE];
-    put_end(&mut limits, end);
-    refused_by(SIZE, VERSION, &limits[3..], area)
+    let limits = limits();
+    refused_by(SIZE, VERSION, &limits, area)
 }
 
-// The end in which each field has the largest value that is in its range: the bytes of its record are the largest that
-// may stand in their places.
-fn largest() -> End
-    ensures { λ r. ⌜ r ≡ largest ⌝ }
+// The same of version 1, which ends where the counts begin.
+pub fn refused_one(area: &[u8]) -> bool
+    ensures { λ r. ⌜ r ≡ refusedOne (now (area .entry)) ⌝ }
 {
-    End {
-        sender: Sender {
-            symbols: [511; 12],
-            position: 11,
-            toggle: true,
-            ready: true,
-            health: 3,
-            loaded: 3,
-        },
-        outbox: Outbox {
-            pending: true,
-            toggle: true,
-            received: true,
-            confirmed: true,
-            number: 15,
-            ping: true,
-            bytes: [255; 8],
-        },
-        collector: Collector {
-            symbols: [511; 12],
-            count: 11,
-        },
-        heard: Heard {
-            present: true,
-            health: 3,
-            got: true,
-            ping: true,
-            valid: true,
-            toggle: true,
-            ack: true,
-            togack: true,
-        },
-        inbox: Inbox {
-            expected: true,
-            acknowledge: true,
-            full: true,
-            toggle: true,
-            number: 15,
-            bytes: [255; 8],
-        },
-    }
+    let limits = limits();
+    refused_by(SIZE_ONE, VERSION_ONE, &limits[0..89], area)
 }
 
 // The same for any size and version; limits has the largest value of each byte behind the head.

@@ -3,6 +3,7 @@
 use crate::SIZE;
 use crate::VERSION;
 use end::Collector;
+use end::Counts;
 use end::End;
 use end::Heard;
 use end::Inbox;
@@ -12,6 +13,7 @@ ghost use mathlib.Core.Path.{_≡_};
 ghost use mathlib.Core.List.{_++_};
 ghost use Prim.Native.Nat.{_+_, _/_, _%_, _≤_};
 ghost use lib.ListN.{length, take};
+ghost use Rattle.end.specs.Counting.{listed};
 ghost use Rattle.record.specs.Record.{size, version, headOf, recordOf, twos};
 ghost use Rattle.record.specs.Record.{senderBytes, outboxBytes, collectorBytes, heardBytes, inboxBytes};
 
@@ -25,12 +27,14 @@ pub fn put_end(area: &mut [u8], end: End)
     let collector = end.collector;
     let heard = end.heard;
     let inbox = end.inbox;
+    let counts = end.counts;
     put_head(area);
     put_sender(area, sender);
     put_outbox(area, outbox);
     put_collector(area, collector);
     put_heard(area, heard);
     put_inbox(area, inbox);
+    put_counts(area, counts);
 }
 
 fn put_head(area: &mut [u8])
@@ -101,10 +105,9 @@ fn put_heard(area: &mut [u8], heard: Heard)
     put(area, 71, &all);
 }
 
-// The last part: the area ends with it.
 fn put_inbox(area: &mut [u8], inbox: Inbox)
     requires { ⌜ length (now area) ≡ size ⌝ }
-    ensures { λ _. ⌜ now (area .exit) ≡ take 79 (now (area .entry)) ++ inboxBytes inbox ⌝ }
+    ensures { λ _. ⌜ take 92 (now (area .exit)) ≡ take 79 (now (area .entry)) ++ inboxBytes inbox ⌝ }
 {
     let first = [
         inbox.expected as u8,
@@ -116,6 +119,24 @@ fn put_inbox(area: &mut [u8], inbox: Inbox)
     let bytes = inbox.bytes;
     put(area, 79, &first);
     put_eight(area, 84, bytes);
+}
+
+// The last part: the area ends with it.
+fn put_counts(area: &mut [u8], counts: Counts)
+    requires { ⌜ length (now area) ≡ size ⌝ }
+    ensures { λ _. ⌜ now (area .exit) ≡ take 92 (now (area .entry)) ++ twos (listed counts) ⌝ }
+{
+    let all = [
+        high(counts.accepted),
+        low(counts.accepted),
+        high(counts.crc),
+        low(counts.crc),
+        high(counts.marked),
+        low(counts.marked),
+        high(counts.early),
+        low(counts.early),
+    ];
+    put(area, 92, &all);
 }
 
 // Twelve symbols of two bytes each, the high byte first.

@@ -10,6 +10,8 @@ use Rattle.simhadol.proofs.simhadol_read.Reads as read
 use Rattle.simhadol.proofs.simhadol_write.Reads as write
 use Rattle.simhadol.proofs.simhadol_set_health.Reads as set-health
 use Rattle.simhadol.proofs.simhadol_present.Reads as present
+use Rattle.simhadol.proofs.simhadol_counts.Reads as counts
+use Rattle.simhadol.proofs.simhadol_upgrade.Reads as upgrade
 
 pub record-length-identical : Same record-length.Post
 record-length-identical κs a x y s t e f = e ∙ sym f
@@ -37,3 +39,9 @@ set-health-identical κs a x y s t e f = e .0 ∙ sym (f .0)
 
 pub present-identical : Same present.Post
 present-identical κs a x y s t e f = e ∙ sym f
+
+pub counts-identical : Same counts.Post
+counts-identical κs a x y s t e f = e ∙ sym f
+
+pub upgrade-identical : Same upgrade.Post
+upgrade-identical κs a x y s t e f = e .0 ∙ sym (f .0)

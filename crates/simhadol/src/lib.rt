@@ -1,12 +1,13 @@
 // The calls that the C side makes, as include/simhadol.h declares them: those of crate `record`, with the answer as a
 // number.
+use record::Counted;
 use record::Reply;
 use record::Told;
 ghost use mathlib.Core.Path.{_≡_};
 ghost use Rattle.record.specs.Record.{size};
 ghost use Rattle.record.specs.Calls.{resetting, through, sending, taking, reading, writing, settingHealth, presence};
-ghost use Rattle.record.specs.Calls.{toldBy};
-ghost use Rattle.simhadol.specs.Numbered.{numbered, told};
+ghost use Rattle.record.specs.Calls.{toldBy, upgrading, countsBy};
+ghost use Rattle.simhadol.specs.Numbered.{numbered, told, counted};
 
 // An answer's number, and the symbol of a send, the value of a read, 1 for present; else 0.
 #[repr(C)]
@@ -21,6 +22,16 @@ pub struct SimhadolTaken {
     pub answer: u16,
     pub reason: u16,
     pub symbols: u16,
+}
+
+// An answer's number, and the four counts; all 0 where it is refused.
+#[repr(C)]
+pub struct SimhadolCounted {
+    pub answer: u16,
+    pub accepted: u16,
+    pub crc: u16,
+    pub marked: u16,
+    pub early: u16,
 }
 
 // How many bytes a record has.
@@ -110,6 +121,25 @@ pub extern "C" fn simhadol_present(area: &[u8]) -> SimhadolReply
     numbered(reply)
 }
 
+// The counts.
+#[no_mangle]
+pub extern "C" fn simhadol_counts(area: &[u8]) -> SimhadolCounted
+    ensures { λ r. ⌜ r ≡ counted (countsBy (now (area .entry))) ⌝ }
+{
+    let counts = record::counts(area);
+    counted(counts)
+}
+
+// Fills an area of the right size with the record of the end that an old one, of version 1, is the record of.
+#[no_mangle]
+pub extern "C" fn simhadol_upgrade(old: &[u8], area: &mut [u8]) -> SimhadolReply
+    ensures { λ r. ⌜ r ≡ numbered (upgrading (now (old .entry)) (now (area .entry)) .reply) ⌝ }
+    ensures { λ _. ⌜ now (area .exit) ≡ upgrading (now (old .entry)) (now (area .entry)) .bytes ⌝ }
+{
+    let reply = record::upgrade(old, area);
+    numbered(reply)
+}
+
 // A reply as C reads it.
 fn numbered(reply: Reply) -> SimhadolReply
     ensures { λ r. ⌜ r ≡ numbered reply ⌝ }
@@ -132,6 +162,21 @@ fn told(taken: Told) -> SimhadolTaken
         answer: wide(answer::number(answer)),
         reason: wide(frame::reason::number(reason)),
         symbols: wide(frame::reason::place(reason)),
+    }
+}
+
+// Counts as C reads them.
+fn counted(given: Counted) -> SimhadolCounted
+    ensures { λ r. ⌜ r ≡ counted given ⌝ }
+{
+    let answer = given.answer;
+    let counts = given.counts;
+    SimhadolCounted {
+        answer: wide(answer::number(answer)),
+        accepted: counts.accepted,
+        crc: counts.crc,
+        marked: counts.marked,
+        early: counts.early,
     }
 }
 

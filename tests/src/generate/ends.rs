@@ -108,7 +108,10 @@ impl Writer {
 
     fn set_good(&mut self, side: usize) {
         let (name, index, largest) = self.any_field();
-        let value = self.random.below(usize::from(largest) + 1);
+        let any = self.random.below(usize::from(largest) + 1);
+        let largest = usize::from(largest);
+        // Often near the largest, where a count stops.
+        let value = self.random.of(&[any, any, largest, largest - 1]);
         self.set(side, name, index, value);
     }
 

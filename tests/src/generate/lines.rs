@@ -3,7 +3,7 @@
 use super::{Writer, SIDES};
 use crate::script::Script;
 
-const COMMANDS: [&str; 22] = [
+const COMMANDS: [&str; 23] = [
     "link 0 0",
     "link 3 40",
     "slot",
@@ -22,6 +22,7 @@ const COMMANDS: [&str; 22] = [
     "b present",
     "a set position B",
     "b set tx 11 1FF",
+    "a set crc_count FFFE",
     "check 000 100 100 100 100 100 100 100 100 100 100 100",
     "find 1 0 100 100 100 100 100 100 100 100 100 100 100",
     "crc 00 31 32 33 34 35 36 37 38 39",
@@ -157,7 +158,21 @@ impl Writer {
     }
 
     fn set_soup(&mut self) {
-        let name = self.random.pick(&["tx", "position", "ready", "bytes", "rx", "count", "Count", "rx_number", "none"]);
+        let name = self.random.pick(&[
+            "tx",
+            "position",
+            "ready",
+            "bytes",
+            "rx",
+            "count",
+            "Count",
+            "rx_number",
+            "accepted_count",
+            "crc_count",
+            "marked_count",
+            "early_count",
+            "none",
+        ]);
         let side = SIDES[self.random.below(2)];
         let (index, value) = (self.random.pick(&NUMBERS), self.random.pick(&NUMBERS));
         if self.random.bool() {

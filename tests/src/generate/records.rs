@@ -44,14 +44,14 @@ fn feed_frame(end: &mut End, random: &mut Random) {
     }
 }
 
-/// Every field at a good value, often at its least or its largest.
+/// Every field at a good value, often at its least, its largest or the one before.
 pub fn any_good_end(random: &mut Random) -> End {
     let mut end = End::default();
     for (name, mut field) in fields(&mut end) {
         let largest = good_limit(name).unwrap_or_else(|| field.largest());
         for index in 0..field.elements().unwrap_or(1) {
             let any = random.below(usize::from(largest) + 1) as u16;
-            field.store(index, random.of(&[0, largest, any, any]));
+            field.store(index, random.of(&[0, largest, largest - 1, any, any]));
         }
     }
     end
@@ -96,7 +96,7 @@ pub fn any_call(random: &mut Random) -> Call {
     let symbol = random.of(&[0, 0x100, 511, 512, 1023, 1024, 65535, any, any % 1024, any % 512]);
     let register = random.of(&[2307, 2308, 2308, 2313, 2317, 2318, 2306 + any % 14, 2309 + any % 4, any]);
     let health = random.of(&[0, 3, 4, 65535, 256, any % 6, any]);
-    match random.below(12) {
+    match random.below(13) {
         0 => Call::Reset,
         1 | 2 => Call::Send,
         3 | 4 => taking(symbol, random),
@@ -104,6 +104,7 @@ pub fn any_call(random: &mut Random) -> Call {
         7..=9 if register == TX_CONTROL => Call::Write(register, control_value(random)),
         7..=9 => Call::Write(register, random.word(65536)),
         10 => Call::SetHealth(health),
-        _ => Call::Present,
+        11 => Call::Present,
+        _ => Call::Counts,
     }
 }

@@ -1,12 +1,12 @@
-//! Document 01, "Numbers on the bench", and other lines of the page, and document 02, #101, #102 and #105: what is
-//! expected is written from the pages.
+//! Document 01, "Numbers on the bench", and other lines of the page, and document 02, #101, #102, #105 and #106: what
+//! is expected is written from the pages.
 
 use crate::proved_prints;
 use second::console;
 
 /// A name after `#`, then lines `command > what is printed`. Lines with `//` tell of the file itself.
 const CASES: &str = include_str!("cases.txt");
-const CASES_IN_THE_FILE: usize = 47;
+const CASES_IN_THE_FILE: usize = 50;
 
 /// Where answer 1 begins: each field with its largest good value and the next.
 const LIMITS: &[(&str, &str, &str)] = &[

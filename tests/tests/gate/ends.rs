@@ -74,6 +74,7 @@ fn all_fields() {
     for (name, field) in fields(&mut End::reset()) {
         let values: Vec<u16> = match good_limit(name) {
             Some(511) => vec![0, 1, 0x100, 510, 511, 512, 513, 1023, 1024, 0x8000, 65535],
+            None if field.largest() == 65535 => vec![0, 1, 0xFF, 0x100, 0x7FFF, 0x8000, 65533, 65534, 65535],
             _ => (0..=field.largest()).collect(),
         };
         for index in 0..field.elements().unwrap_or(1) {
@@ -95,6 +96,8 @@ fn every_call(script: &mut Script) {
         "present",
         "send",
         "take 000",
+        "take 003",
+        "take 200",
         "take 400",
         "read 2308",
         "read 2317",

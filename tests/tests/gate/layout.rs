@@ -2,20 +2,25 @@
 //! second implementation's records and docs/RECORD.md are held to it here, and the calls from C in `records` and
 //! `record_runs`.
 
+use crate::records::compare_when;
 use crate::{seed, tell};
+use second::answer::Answer;
+use second::calls::Calls;
 use second::end::End;
 use second::fields::fields;
 use second::generate::{any_good_end, damaged, wander};
 use second::random::Random;
-use second::record::{end_of, record_of};
+use second::record::{end_of, record_of, Call};
 use std::time::Instant;
 
-pub const LENGTH: usize = 92;
+pub const LENGTH: usize = 100;
+/// Of version 1, which ends before the counts.
+pub const LENGTH_1: usize = 92;
 
 const PAGE: &str = include_str!("../../../docs/RECORD.md");
 
-/// The fields of a record: name, first byte, largest value. A symbol has two bytes, the high one first.
-const LAYOUT: [(&str, usize, u16); 29] = [
+/// The fields of a record: name, first byte, largest value. A symbol or a count has two bytes, the high one first.
+const LAYOUT: [(&str, usize, u16); 33] = [
     ("tx", 3, 511),
     ("position", 27, 11),
     ("sending_toggle", 28, 1),
@@ -45,13 +50,19 @@ const LAYOUT: [(&str, usize, u16); 29] = [
     ("rx_toggle", 82, 1),
     ("rx_number", 83, 15),
     ("rx_bytes", 84, 255),
+    ("accepted_count", 92, 65535),
+    ("crc_count", 94, 65535),
+    ("marked_count", 96, 65535),
+    ("early_count", 98, 65535),
 ];
+
+const HEAD: [u8; 3] = [0, 100, 2];
+const HEAD_1: [u8; 3] = [0, 92, 1];
 
 /// Length, version and the fields, each laid at its place by the table.
 pub fn spelled_out(end: &End) -> Vec<u8> {
     let mut record = vec![0; LENGTH];
-    record[1] = 92;
-    record[2] = 1;
+    record[..3].copy_from_slice(&HEAD);
     for (name, field) in fields(&mut end.clone()) {
         let (_, first, largest) = *LAYOUT.iter().find(|row| row.0 == name).expect("every field has a row");
         for (index, value) in field.values().into_iter().enumerate() {
@@ -66,18 +77,37 @@ pub fn spelled_out(end: &End) -> Vec<u8> {
     record
 }
 
-/// Whether a byte of a record may have this value.
+/// The same of version 1: another head, and no counts.
+pub fn spelled_out_1(end: &End) -> Vec<u8> {
+    [&HEAD_1, &spelled_out(end)[3..LENGTH_1]].concat()
+}
+
+/// What a record of version 1 becomes: the bytes of its end as they are, and all counts 0.
+pub fn upgraded(old: &[u8]) -> Vec<u8> {
+    [&HEAD, &old[3..], &[0; 8]].concat()
+}
+
+/// Whether a byte behind the head may have this value.
 fn allowed(place: usize, byte: u8) -> bool {
-    let row = LAYOUT.iter().rev().find(|(_, first, _)| *first <= place);
-    match row {
-        None => byte == [0, 92, 1][place],
+    match LAYOUT.iter().rev().find(|(_, first, _)| *first <= place) {
+        None => true,
         Some((_, first, 511)) => (place - first) % 2 == 1 || byte <= 1,
         Some((_, _, largest)) => u16::from(byte) <= *largest,
     }
 }
 
+fn is_of(bytes: &[u8], length: usize, head: [u8; 3]) -> bool {
+    bytes.len() == length
+        && bytes.starts_with(&head)
+        && bytes.iter().enumerate().all(|(place, byte)| allowed(place, *byte))
+}
+
 pub fn is_record(bytes: &[u8]) -> bool {
-    bytes.len() == LENGTH && bytes.iter().enumerate().all(|(place, byte)| allowed(place, *byte))
+    is_of(bytes, LENGTH, HEAD)
+}
+
+pub fn is_version_1(bytes: &[u8]) -> bool {
+    is_of(bytes, LENGTH_1, HEAD_1)
 }
 
 /// The cells of the page's first table, row by row, below its heading.
@@ -97,6 +127,7 @@ fn rows_of_the_layout() -> Vec<[String; 4]> {
         let bytes = match largest {
             511 => 24,
             255 => 8,
+            65535 => 2,
             _ => 1,
         };
         [first.to_string(), bytes.to_string(), format!("`{}`", name), largest.to_string()]
@@ -111,7 +142,66 @@ fn page_has_the_layout() {
         assert_eq!(row.len(), 5, "{:?}", row);
         assert_eq!(row[..4], wanted[..]);
     }
-    assert_eq!((page.len(), layout.len()), (31, 31));
+    assert_eq!((page.len(), layout.len()), (35, 35));
+}
+
+/// Every byte by hand: each field has a value of its own, or its largest.
+#[test]
+fn worked_by_hand() {
+    let end = End {
+        tx: [0x0AA, 0x101, 0x102, 0x103, 0x104, 0x105, 0x106, 0x107, 0x108, 0x109, 0x10A, 0x1FF],
+        position: 11,
+        sending_toggle: true,
+        ready: false,
+        health: 2,
+        loaded_health: 3,
+        pending: true,
+        register_toggle: false,
+        received: true,
+        received_toggle: false,
+        number: 15,
+        ping_tx: true,
+        bytes: [0x11, 0x12, 0x13, 0x14, 0x15, 0x16, 0x17, 0xFF],
+        rx: [0x0BB, 0x121, 0x122, 0x123, 0x124, 0x125, 0x126, 0x127, 0x128, 0x129, 0x12A, 0x1FE],
+        count: 10,
+        present: true,
+        partner_health: 1,
+        ping_got: false,
+        partner_ping: true,
+        valid: false,
+        toggle: true,
+        ack: false,
+        togack: true,
+        expected_toggle: false,
+        acknowledge: true,
+        full: false,
+        rx_toggle: true,
+        rx_number: 14,
+        rx_bytes: [0x21, 0x22, 0x23, 0x24, 0x25, 0x26, 0x27, 0xFE],
+        accepted_count: 0xFFFE,
+        crc_count: 0x0102,
+        marked_count: 0x0300,
+        early_count: 0x0004,
+    };
+    // What stands between the head and the counts.
+    let body = "00AA 0101 0102 0103 0104 0105 0106 0107 0108 0109 010A 01FF 0B 01 00 02 03 01 00 01 00 0F 01 \
+                11121314151617FF 00BB 0121 0122 0123 0124 0125 0126 0127 0128 0129 012A 01FE 0A 01 01 00 01 00 01 \
+                00 01 00 01 00 01 0E 21222324252627FE";
+    let bytes = |text: &str| -> Vec<u8> {
+        let digits: Vec<u32> = text.chars().filter_map(|letter| letter.to_digit(16)).collect();
+        digits.chunks(2).map(|pair| (16 * pair[0] + pair[1]) as u8).collect()
+    };
+    let record = bytes(&format!("0064 02 {} FFFE 0102 0300 0004", body));
+    let old = bytes(&format!("005C 01 {}", body));
+    let new = bytes(&format!("0064 02 {} 0000 0000 0000 0000", body));
+    assert_eq!((record.len(), old.len()), (100, 92));
+    assert_eq!((spelled_out(&end), spelled_out_1(&end), upgraded(&old)), (record.clone(), old.clone(), new.clone()));
+    let mut calls = Calls::default();
+    calls.lay(0, &record);
+    assert_eq!(calls.call(0, Call::Counts), (Answer::Done, [0xFFFE, 0x0102, 0x0300, 0x0004]));
+    calls.lay(1, &old);
+    assert_eq!((calls.upgrade(0), calls.area(0)), (Answer::Done, &new[..]));
+    compare_when(true, "records, worked by hand", &mut calls);
 }
 
 /// The second implementation's own records: as the table lays them, read back as the same end, and accepted only if

@@ -1,10 +1,12 @@
 //! The proved program and the calls from C against the second implementation, and all against document 01 with document
-//! 02's requests #101, #102, #104 and #105.
+//! 02's requests #101, #102 and #104 to #106.
 //!
 //! SIMHADOL_BENCH names the program, SIMHADOL_C the folder of the C programs, SIMHADOL_SEED the first seed.
 
 mod cases;
 mod console;
+mod count_runs;
+mod counts;
 mod crc;
 mod demand3;
 mod ends;
@@ -20,6 +22,7 @@ mod reason_runs;
 mod reasons;
 mod record_runs;
 mod records;
+mod upgrades;
 mod vectors;
 
 use second::generate::Kind;

@@ -1,6 +1,7 @@
-//! The C programs as they are, and the driver's other ways to lay an area: document 02, #104 and #105.
+//! The C programs as they are, and the driver's other ways to lay an area: document 02, #104 to #106.
 
 use crate::records::{every_answer_was_given, every_length, every_reason_was_given, some_random_calls};
+use crate::upgrades::every_pair_of_lengths;
 use crate::{say, seed, tell};
 use second::end::End;
 use second::programs::{has_valgrind, program, under_valgrind};
@@ -37,7 +38,7 @@ fn tile_plays_the_freeze() {
 #[test]
 fn tests_from_c_pass() {
     let text = printed("calls", &run(program("calls"), ""));
-    assert!(text.ends_with("\n25 tests, 0 failed\n"), "{}", text);
+    assert!(text.ends_with("\n43 tests, 0 failed\n"), "{}", text);
 }
 
 #[test]
@@ -46,8 +47,8 @@ fn header_is_cpp_too() {
 }
 
 #[test]
-fn macro_is_the_length() {
-    assert_eq!(printed("driver", &run(driver(program("driver"), "guards"), "length\n")), "92 92\n");
+fn macros_are_the_lengths() {
+    assert_eq!(printed("driver", &run(driver(program("driver"), "guards"), "length\n")), "100 100 92\n");
 }
 
 /// What can't be printed is told, and no success.
@@ -115,13 +116,15 @@ fn no_byte_beyond_by_pages() {
 /// Areas of every length, most of them refused, and random ones, on which each call gives each of its answers.
 fn hold_beyond(name: &str, driver: impl Fn() -> Command) {
     let start = Instant::now();
-    let (lengths, random) = (every_length(1), some_random_calls(20_000));
+    let (lengths, pairs, random) = (every_length(1), every_pair_of_lengths(&[92, 100]), some_random_calls(20_000));
     every_answer_was_given(&random, 10);
     every_reason_was_given(&random, 1);
-    for calls in [&lengths, &random] {
+    let mut count = 0;
+    for calls in [&lengths, &pairs, &random] {
         calls.compare(driver()).unwrap_or_else(|why| panic!("{}: seed {}, {}", name, seed(), why));
+        count += calls.count();
     }
-    tell(&format!("records, {}", name), lengths.count() + random.count(), "calls", start);
+    tell(&format!("records, {}", name), count, "calls", start);
 }
 
 /// The driver says what it can't read and where, and stops.
@@ -144,6 +147,13 @@ fn driver_names_what_it_cannot_read() {
         "a take 65536\n",
         "a take 1 2\n",
         "a reason\n",
+        "a counts 1\n",
+        "a seal 1\n",
+        "a upgrade\n",
+        "a upgrade a\n",
+        "b upgrade b\n",
+        "a upgrade c\n",
+        "a upgrade b 1\n",
         "a write 1\n",
         "a send",
         "length 1\n",
@@ -155,7 +165,7 @@ fn driver_names_what_it_cannot_read() {
         let errors = String::from_utf8_lossy(&output.stderr);
         assert!(output.status.code() == Some(2), "{:?}: {}", input, output.status);
         assert!(errors.starts_with("driver: line 2: "), "{:?}: {}", input, errors);
-        assert_eq!(output.stdout, b"92 92\n", "{:?}", input);
+        assert_eq!(output.stdout, b"100 100 92\n", "{:?}", input);
     }
     assert_eq!(run(driver(program("driver"), "elsewhere"), "").status.code(), Some(2));
 }

@@ -66,25 +66,6 @@ impl Run {
         }
     }
 
-    /// A frame, sound or harmed, or a part of one.
-    fn take_frame(&mut self) {
-        let mut list = build(&data_bytes(&mut self.random)).to_vec();
-        let place = self.random.below(SYMBOLS);
-        let bit = 1 << self.random.below(8);
-        match self.random.below(10) {
-            0 => list[place] ^= bit,
-            // Right parity, wrong CRC.
-            1 => list[place] ^= bit | 0x100,
-            2 => list[place] |= MARK,
-            3 => list[place] ^= bit | MARK,
-            4 => list[place] = self.random.word(1024),
-            5 => list.truncate(place),
-            6 => drop(list.drain(..place)),
-            _ => {}
-        }
-        list.into_iter().for_each(|symbol| self.take(symbol));
-    }
-
     /// The other calls leave the collection, and so does a refused symbol; reset empties it.
     fn other_call(&mut self) {
         let value = self.random.word(65536);
@@ -104,6 +85,25 @@ impl Run {
     }
 }
 
+/// A frame, sound or harmed, or a part of one.
+pub fn any_frame(random: &mut Random) -> Vec<u16> {
+    let mut list = build(&data_bytes(random)).to_vec();
+    let place = random.below(SYMBOLS);
+    let bit = 1 << random.below(8);
+    match random.below(10) {
+        0 => list[place] ^= bit,
+        // Right parity, wrong CRC.
+        1 => list[place] ^= bit | 0x100,
+        2 => list[place] |= MARK,
+        3 => list[place] ^= bit | MARK,
+        4 => list[place] = random.word(1024),
+        5 => list.truncate(place),
+        6 => drop(list.drain(..place)),
+        _ => {}
+    }
+    list
+}
+
 #[test]
 fn the_check_says_the_same() {
     let start = Instant::now();
@@ -111,7 +111,7 @@ fn the_check_says_the_same() {
     let mut run = Run { random, script, collection: Vec::new(), told: BTreeMap::new() };
     run.script.say(format_args!("a reset"));
     for _ in 0..40_000 {
-        run.take_frame();
+        any_frame(&mut run.random).into_iter().for_each(|symbol| run.take(symbol));
         if run.random.bool() {
             run.other_call();
         }

@@ -101,12 +101,18 @@ fn every_symbol_from_c() {
         let broken = if reason >= 3 { collected } else { 0 };
         for (side, call) in [Call::TakeReason(symbol), Call::Take(symbol)].into_iter().enumerate() {
             calls.lay(side, &record_of(&end));
-            let wanted = if side == 0 { (Answer::Done, reason as u16, broken as u16) } else { (Answer::Done, 0, 0) };
-            assert_eq!(calls.call(side, call), wanted, "{}, {} collected", call, collected);
+            let wanted = if side == 0 { [reason as u16, broken as u16, 0, 0] } else { [0; 4] };
+            assert_eq!(calls.call(side, call), (Answer::Done, wanted), "{}, {} collected", call, collected);
         }
         assert_eq!(calls.area(0), calls.area(1), "{:03X}, {} collected", symbol, collected);
-        let wanted = if then == 0 { (Answer::Done, 0, 0) } else { (Answer::Done, 3, then as u16) };
-        assert_eq!(calls.call(0, Call::TakeReason(0x200)), wanted, "after {:03X}, {} collected", symbol, collected);
+        let wanted = if then == 0 { [0; 4] } else { [3, then as u16, 0, 0] };
+        assert_eq!(
+            calls.call(0, Call::TakeReason(0x200)),
+            (Answer::Done, wanted),
+            "after {:03X}, {} collected",
+            symbol,
+            collected
+        );
         compare_when(false, "reasons, from C", &mut calls);
     }
     compare_when(true, "reasons, from C", &mut calls);

@@ -29,7 +29,7 @@ impl Joined {
     }
 
     fn slot(&mut self, lossy: bool) {
-        let sent = [self.call(0, Call::Send).1, self.call(1, Call::Send).1];
+        let sent = [self.call(0, Call::Send).1[0], self.call(1, Call::Send).1[0]];
         for side in 0..2 {
             let mark = u16::from(lossy && self.random.one_in(30));
             self.marked += usize::from(mark);
@@ -62,7 +62,7 @@ impl Joined {
     }
 
     fn take_message(&mut self, side: usize) {
-        if self.call(side, Call::Read(2313)).1 >> 15 == 1 {
+        if self.call(side, Call::Read(2313)).1[0] >> 15 == 1 {
             for register in 2314..2318 {
                 self.call(side, Call::Read(register));
             }

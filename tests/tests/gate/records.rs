@@ -1,9 +1,11 @@
-//! The calls from C on records, through `tests/c/driver.c`, against the second implementation: document 02, #104, and
-//! #105's reason.
+//! The calls from C on records, through `tests/c/driver.c`, against the second implementation: document 02, #104, with
+//! #105's reason and #106's counts.
 //!
-//! After every call answer, value or reason, and all bytes are compared; the guard bytes beside them are untouched.
+//! After every call answer, value, reason or counts, and all bytes are compared; the guard bytes beside them are
+//! untouched.
 
 use crate::layout::{is_record, LENGTH};
+use crate::upgrades::{any_old, upgrade_from};
 use crate::{seed, tell};
 use second::answer::Answer;
 use second::calls::Calls;
@@ -16,11 +18,12 @@ use std::collections::BTreeMap;
 use std::process::Command;
 use std::time::Instant;
 
-const LONGEST: usize = 300;
+pub const LONGEST: usize = 300;
 
 /// Every call, refused or done. The last are those that answer 11 comes before.
-const EVERY_CALL: [Call; 20] = [
+pub const EVERY_CALL: [Call; 21] = [
     Call::Present,
+    Call::Counts,
     Call::Send,
     Call::Take(0),
     Call::Take(0x100),
@@ -43,7 +46,7 @@ const EVERY_CALL: [Call; 20] = [
 ];
 
 /// The answers that each call can give.
-const ANSWERS: [(&str, &[u8]); 8] = [
+const ANSWERS: [(&str, &[u8]); 10] = [
     ("reset", &[0, 11]),
     ("send", &[0, 11]),
     ("take", &[0, 5, 11]),
@@ -52,6 +55,8 @@ const ANSWERS: [(&str, &[u8]); 8] = [
     ("write", &[0, 2, 3, 4, 10, 11]),
     ("health", &[0, 6, 11]),
     ("present", &[0, 11]),
+    ("counts", &[0, 11]),
+    ("upgrade", &[0, 11]),
 ];
 
 fn driver() -> Command {
@@ -65,7 +70,7 @@ pub fn compare_when(last: bool, name: &str, calls: &mut Calls) {
 }
 
 /// A call on an area laid for it. 11 is given exactly where the table says that the bytes are no record.
-fn call_on(calls: &mut Calls, area: &[u8], call: Call) {
+pub fn call_on(calls: &mut Calls, area: &[u8], call: Call) {
     calls.lay(0, area);
     let wanted = if call == Call::Reset { area.len() != LENGTH } else { !is_record(area) };
     let (answer, ..) = calls.call(0, call);
@@ -97,10 +102,16 @@ fn random_area(end: &mut End, random: &mut Random) -> (Vec<u8>, Call) {
     (area, call)
 }
 
-/// One random area with its calls.
+/// One random area with its calls, at times one that is upgraded.
 fn call_at_random(calls: &mut Calls, end: &mut End, random: &mut Random) {
     let (area, call) = random_area(end, random);
-    call_on(calls, &area, call);
+    if random.one_in(8) {
+        let old = any_old(end, random);
+        let length = random.of(&[LENGTH, LENGTH, LENGTH, area.len(), LENGTH - 1, LENGTH + 1, 0]);
+        upgrade_from(calls, &old, &random_bytes(random, length));
+    } else {
+        call_on(calls, &area, call);
+    }
     // more on the same area, as it then is
     for _ in 0..random.below(4) {
         calls.call(0, any_call(random));
@@ -157,7 +168,7 @@ pub fn every_reason_was_given(calls: &Calls, least: usize) {
     }
 }
 
-/// Each value of each of the 92 bytes, met by each call.
+/// Each value of each of the 100 bytes, met by each call.
 #[test]
 fn every_byte() {
     let start = Instant::now();
@@ -178,11 +189,11 @@ fn every_byte() {
         }
     }
     compare_when(true, "records, every byte", &mut calls);
-    assert_eq!(calls.count(), 92 * 256 * 21);
+    assert_eq!(calls.count(), 100 * 256 * 22);
     tell("records, every byte", calls.count(), "calls", start);
 }
 
-/// All lengths that the head can tell, and with them versions 0, 2, 3 and 255, beside the right one.
+/// All lengths that the head can tell, and with them versions 0, 1, 3 and 255, beside the right one.
 #[test]
 fn every_head() {
     let start = Instant::now();
@@ -191,7 +202,7 @@ fn every_head() {
     for length in 0..=65535u16 {
         let mut area = record_of(&any_good_end(&mut random));
         area[..2].copy_from_slice(&length.to_be_bytes());
-        area[2] = random.of(&[1, 1, 0, 2, 3, 255]);
+        area[2] = random.of(&[2, 2, 0, 1, 3, 255]);
         call_on(&mut calls, &area, random.of(&EVERY_CALL));
         compare_when(false, "records, every head", &mut calls);
     }
@@ -226,7 +237,7 @@ pub fn every_length(rounds: usize) -> Calls {
     }
     for call in EVERY_CALL.into_iter().chain([Call::Reset]) {
         calls.lay_null(1);
-        assert_eq!(calls.call(1, call), (Answer::BadRecord, 0, 0));
+        assert_eq!(calls.call(1, call), (Answer::BadRecord, [0; 4]));
     }
     calls
 }

@@ -8,7 +8,7 @@ use std::fs;
 use std::path::PathBuf;
 use std::time::Instant;
 
-const EXPECTED: &str = "105";
+const EXPECTED: &str = "106";
 
 fn folder() -> PathBuf {
     package().join("vectors")

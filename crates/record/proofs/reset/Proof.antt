@@ -1,34 +1,30 @@
--- `reset` meets its contract.
+-- `reset` meets its contract: the area is filled with the end after reset.
 -- Assumes nothing.
 use mathlib.Core.Path.{ap, _∙_}
-use Rattle.record.specs.Record.{recordOf}
-use Rattle.record.proofs.Gave.{reset-bad, reset-done}
+use Rattle.end.specs.declared.End.{End}
+use Rattle.record.specs.Calls.{filled, resetting}
 use borrow.Author.Needs.{needs}
 use Rattle.record.proofs.reset.Statement.{statement}
 use Rattle.record.proofs.reset.Tie as tie
 
-bad-record-requires : tie.Need-bad-record-requires
-bad-record-requires c κs = search needs
-
-returns : tie.Need-returns
-returns c = reset-bad _ (c .before .if1 .taken) (c .bad-record .ensures)
-
 reset-requires : tie.Need-reset-requires
 reset-requires c κs = search needs
 
-put-end-requires : tie.Need-put-end-requires
-put-end-requires c κs = search needs
+fill-requires : tie.Need-fill-requires
+fill-requires c κs = search needs
 
 same-length : tie.Need-same-length
 same-length c = search needs
 
-returns-2 : tie.Need-returns-2
-returns-2 c =
-    let p = c .before .before in
-    let e = p .before .before in
-    reset-done _ (e .before .if1 .left) (p .put-end .ensures ∙ ap recordOf (e .reset .ensures))
+returns : tie.Need-returns
+unfolding resetting
+returns c =
+    let f = c .before .before in
+    let e = f .before .before in
+    let a = e .before .before .args .area .now in (
+      f .fill .ensures .0 ∙ ap (λ (x : End). filled x a .reply) (e .reset .ensures),
+      f .fill .ensures .1 ∙ ap (λ (x : End). filled x a .bytes) (e .reset .ensures),
+    )
 
 pub reset-spec : {M : Type 1} → statement M
-reset-spec =
-    tie.close
-    (tie.spec bad-record-requires returns reset-requires put-end-requires same-length returns-2)
+reset-spec = tie.close (tie.spec reset-requires fill-requires same-length returns)

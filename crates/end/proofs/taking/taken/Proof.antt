@@ -26,17 +26,21 @@ hear-requires c κs = search needs
 enter-requires : tie.Need-enter-requires
 enter-requires c κs = search needs
 
+tally-requires : tie.Need-tally-requires
+tally-requires c κs = search needs
+
 returns : tie.Need-returns
 unfolding taken
 returns c =
-    let h = c .before in
+    let n = c .before .before in
+    let h = n .before in
     let a = h .before in
     let r = a .before in
     let s = r .before .before in
     let x = s .before .before .before .before .args in
     let step = accepts-reason (x .symbol) (x .end .collector .count) (s .collect .result .symbols) in
     let accepted = a .is-accepted .ensures ∙ ap isAccepted (r .reason-of .ensures) ∙ step in
-    rw (c .enter .ensures, h .hear .ensures, accepted, r .reason-of .ensures, s .collect .ensures)
+    rw (c .tally .ensures, n .enter .ensures, h .hear .ensures, accepted, r .reason-of .ensures, s .collect .ensures)
     (rw (s .before .settle .ensures))
 
 pub taken-spec : {M : Type 1} → statement M
@@ -49,4 +53,5 @@ taken-spec =
     is-accepted-requires
     hear-requires
     enter-requires
+    tally-requires
     returns)

@@ -1,8 +1,9 @@
 -- `writing::put_end` meets its contract: the parts, one behind the other, are the whole record.
 -- Assumes nothing.
-use Rattle.record.specs.Record.{size, version, headOf, bodyOf, recordOf}
+use Rattle.end.specs.Counting.{listed}
+use Rattle.record.specs.Record.{size, version, headOf, bodyOne, bodyOf, recordOf, twos}
 use Rattle.record.specs.Record.{senderBytes, outboxBytes, collectorBytes, heardBytes, inboxBytes}
-use Rattle.record.proofs.Parts.{built}
+use Rattle.record.proofs.Parts.{built, chained}
 use borrow.Author.Needs.{needs}
 use Rattle.record.proofs.writing.put_end.Statement.{statement}
 use Rattle.record.proofs.writing.put_end.Tie as tie
@@ -25,22 +26,28 @@ put-heard-requires c κs = search needs
 put-inbox-requires : tie.Need-put-inbox-requires
 put-inbox-requires c κs = search needs
 
+put-counts-requires : tie.Need-put-counts-requires
+put-counts-requires c κs = search needs
+
 same-length : tie.Need-same-length
 same-length c = search needs
 
 returns : tie.Need-returns
-unfolding recordOf bodyOf
+unfolding recordOf bodyOne bodyOf
 returns c =
-    let i = c .before .before in
+    let n = c .before .before in
+    let i = n .before .before .before .before in
     let h = i .before .before .before .before in
     let k = h .before .before .before .before in
     let o = k .before .before .before .before in
     let s = o .before .before .before .before in
     let d = s .before .before .before .before in
-    let e = d .before .before .before .before .before .before .before .before .args .end in
-    built (headOf size version) (senderBytes (e .sender)) (outboxBytes (e .outbox)) (collectorBytes (e .collector))
+    let e = d .before .before .before .before .before .before .before .before .before .args .end in
+    chained _ _ (headOf size version) (bodyOne e) (twos (listed (e .counts)))
+    (built (headOf size version) (senderBytes (e .sender)) (outboxBytes (e .outbox)) (collectorBytes (e .collector))
     (heardBytes (e .heard)) (inboxBytes (e .inbox)) (d .put-head .ensures) (s .put-sender .ensures)
-    (o .put-outbox .ensures) (k .put-collector .ensures) (h .put-heard .ensures) (i .put-inbox .ensures)
+    (o .put-outbox .ensures) (k .put-collector .ensures) (h .put-heard .ensures) (i .put-inbox .ensures))
+    (n .put-counts .ensures)
 
 pub put-end-spec : {M : Type 1} → statement M
 put-end-spec =
@@ -52,5 +59,6 @@ put-end-spec =
     put-collector-requires
     put-heard-requires
     put-inbox-requires
+    put-counts-requires
     same-length
     returns)

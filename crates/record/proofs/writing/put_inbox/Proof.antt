@@ -1,8 +1,7 @@
--- `writing::put_inbox` meets its contract: one part behind the other, up to the end.
+-- `writing::put_inbox` meets its contract: one part behind the other.
 -- Assumes nothing.
-use mathlib.Core.Path.{sym, _∙_}
 use lib.ListN.{take}
-use Rattle.record.proofs.Parts.{chained, whole}
+use Rattle.record.proofs.Parts.{chained}
 use borrow.Author.Needs.{needs}
 use Rattle.record.proofs.writing.put_inbox.Statement.{statement}
 use Rattle.record.proofs.writing.put_inbox.Tie as tie
@@ -36,8 +35,7 @@ returns c =
     let p = c .before .before in
     let s = p .before .before .before .before in
     let a = s .before .before .before .before .before .before .before .before .before .args in
-    sym (whole 92 (p .put-eight .last .0) (search needs))
-    ∙ chained _ _ (take 79 (a .area .now)) _ (a .inbox .bytes) (s .put .ensures) (p .put-eight .ensures)
+    chained _ _ (take 79 (a .area .now)) _ (a .inbox .bytes) (s .put .ensures) (p .put-eight .ensures)
 
 pub put-inbox-spec : {M : Type 1} → statement M
 put-inbox-spec =

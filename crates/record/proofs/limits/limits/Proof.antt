@@ -1,0 +1,13 @@
+-- `limits::limits` meets its contract: both sides compute to the same bytes.
+-- Assumes nothing.
+use mathlib.Core.Path.{refl}
+use Rattle.record.specs.Record.{bodyOne, bodyOf}
+use Rattle.record.proofs.limits.limits.Statement.{statement}
+use Rattle.record.proofs.limits.limits.Tie as tie
+
+returns : tie.Need-returns
+unfolding bodyOne bodyOf
+returns c = refl
+
+pub limits-spec : {M : Type 1} → statement M
+limits-spec = tie.close (tie.spec returns)

@@ -1,0 +1,185 @@
+//! Long runs: each count is the number of such reasons told since reset, or since it was set, or 65,535 where that is
+//! more. Document 02, #106. The reasons are counted here as they are printed. And no call looks at a count.
+
+use crate::counts::dump;
+use crate::reason_runs::any_frame;
+use crate::records::compare_when;
+use crate::{compare, seed, tell};
+use second::answer::Answer;
+use second::calls::Calls;
+use second::generate::{any_call, any_good_end};
+use second::random::Random;
+use second::record::{record_of, Call, Reply};
+use second::script::Script;
+use std::time::Instant;
+
+/// In the order of the counts, and of the reasons' numbers from 1 on.
+const WORDS: [&str; 4] = ["accepted", "crc", "marked", "early"];
+
+/// How often each reason was told.
+#[derive(Default)]
+pub struct Tally {
+    since_reset: [usize; 4],
+    pub ever: [usize; 4],
+}
+
+impl Tally {
+    /// As the counts must be.
+    fn counts(&self) -> [u16; 4] {
+        self.since_reset.map(|times| times.min(65_535) as u16)
+    }
+
+    fn add(&mut self, kind: usize) {
+        self.since_reset[kind] += 1;
+        self.ever[kind] += 1;
+    }
+
+    /// A reset, or an end made anew.
+    pub fn start(&mut self) {
+        self.since_reset = [0; 4];
+    }
+
+    /// A call from C and its reply. Where it gives the counts, they are looked at.
+    pub fn hear(&mut self, call: Call, reply: Reply) {
+        match (call, reply) {
+            (Call::Reset, (Answer::Done, _)) => self.start(),
+            (Call::TakeReason(_), (Answer::Done, [reason @ 1..=4, ..])) => self.add(usize::from(reason) - 1),
+            (Call::Counts, (Answer::Done, counts)) => assert_eq!(counts, self.counts()),
+            _ => {}
+        }
+    }
+}
+
+struct Run {
+    random: Random,
+    script: Script,
+    tally: Tally,
+}
+
+impl Run {
+    fn take(&mut self, symbol: u16) {
+        self.script.say(format_args!("a take {:03X}", symbol));
+        let told = String::from_utf8_lossy(self.script.last_answer()).into_owned();
+        let word = told.split(' ').nth(1);
+        if let Some(kind) = WORDS.iter().position(|known| word == Some(known)) {
+            self.tally.add(kind);
+        }
+    }
+
+    /// Another call, a refused symbol, an end that is wrong for a while, a reset, or a count set near its end.
+    fn other_call(&mut self) {
+        let value = self.random.word(65536);
+        match self.random.below(10) {
+            0 => self.script.say(format_args!("a send")),
+            1 => self.script.say(format_args!("a read {}", 2307 + value % 12)),
+            2 => self.script.say(format_args!("a write {} {:X}", 2307 + value % 12, value)),
+            3 => self.script.say(format_args!("a health {:X}", value % 5)),
+            4 => self.script.say(format_args!("a present")),
+            5 => self.take(value | 0x400),
+            6 => self.wrong_for_a_while(),
+            7 if value % 64 == 0 => {
+                self.script.say(format_args!("a reset"));
+                self.tally.start();
+            }
+            8 if value % 16 == 0 => {
+                let kind = self.random.below(4);
+                let count = 65_530 + self.random.below(6);
+                self.script.say(format_args!("a set {}_count {:X}", WORDS[kind], count));
+                self.tally.since_reset[kind] = count;
+            }
+            _ => self.take(value % 1024),
+        }
+    }
+
+    fn wrong_for_a_while(&mut self) {
+        self.script.say(format_args!("a set number 10"));
+        any_frame(&mut self.random).into_iter().for_each(|symbol| self.take(symbol));
+        self.script.say(format_args!("a set number 0"));
+    }
+}
+
+#[test]
+fn counts_are_the_reasons_told() {
+    let start = Instant::now();
+    let (random, script) = (Random::new(seed()), Script::new(seed()));
+    let mut run = Run { random, script, tally: Tally::default() };
+    run.script.say(format_args!("a reset"));
+    for _ in 0..30_000 {
+        any_frame(&mut run.random).into_iter().for_each(|symbol| run.take(symbol));
+        if run.random.bool() {
+            run.other_call();
+        }
+        let counts = run.tally.counts();
+        dump(&mut run.script, "a", counts);
+    }
+    compare("counts, runs", &run.script);
+    assert!(run.tally.ever.iter().all(|times| *times > 2_000), "{:?}", run.tally.ever);
+    tell("counts, runs", run.script.calls, "calls", start);
+}
+
+/// The same from C on two records, one by the call that tells the reason and one by the call that does not.
+#[test]
+fn counts_are_the_reasons_told_from_c() {
+    let start = Instant::now();
+    let mut random = Random::new(seed());
+    let mut calls = Calls::default();
+    let mut tally = Tally::default();
+    for side in 0..2 {
+        calls.lay(side, &[0; 100]);
+        calls.call(side, Call::Reset);
+    }
+    for turn in 0..6_000 {
+        let symbols = any_frame(&mut random).into_iter().map(Call::TakeReason);
+        let other = match any_call(&mut random) {
+            Call::Take(symbol) => Call::TakeReason(symbol),
+            // Long runs are wanted.
+            Call::Reset if turn % 100 > 0 => Call::Send,
+            call => call,
+        };
+        for call in symbols.chain([other, Call::Counts]) {
+            let reply = calls.call(0, call);
+            tally.hear(call, reply);
+            let plain = match call {
+                Call::TakeReason(symbol) => Call::Take(symbol),
+                call => call,
+            };
+            calls.call(1, plain);
+            assert_eq!(calls.area(0), calls.area(1), "{}", call);
+        }
+        compare_when(false, "counts, runs from C", &mut calls);
+    }
+    compare_when(true, "counts, runs from C", &mut calls);
+    assert!(tally.ever.iter().all(|times| *times > 400), "{:?}", tally.ever);
+    tell("counts, runs from C", calls.count(), "calls", start);
+}
+
+/// What has been counted decides nothing: two records that differ in that alone give the same replies and stay the same
+/// before their counts. Calls that take nothing leave the counts.
+#[test]
+fn counts_decide_nothing() {
+    let start = Instant::now();
+    let mut random = Random::new(seed());
+    let mut calls = Calls::default();
+    for _ in 0..5_000 {
+        let record = record_of(&any_good_end(&mut random));
+        let other = record_of(&any_good_end(&mut random));
+        calls.lay(0, &record);
+        calls.lay(1, &[&record[..92], &other[92..]].concat());
+        for _ in 0..6 {
+            let call = any_call(&mut random);
+            let before = [0, 1].map(|side| calls.area(side)[92..].to_vec());
+            let replies = [0, 1].map(|side| calls.call(side, call));
+            let after = [0, 1].map(|side| calls.area(side)[92..].to_vec());
+            assert_eq!(calls.area(0)[..92], calls.area(1)[..92], "{}", call);
+            assert!(call == Call::Counts || replies[0] == replies[1], "{}", call);
+            match call {
+                Call::Reset => assert_eq!(after, [vec![0; 8], vec![0; 8]]),
+                Call::Take(_) | Call::TakeReason(_) => {}
+                _ => assert_eq!(after, before, "{}", call),
+            }
+        }
+        compare_when(false, "counts, decide nothing", &mut calls);
+    }
+    compare_when(true, "counts, decide nothing", &mut calls);
+    tell("counts, decide nothing", calls.count(), "calls", start);
+}

@@ -70,7 +70,8 @@ pub struct Inbox {
     pub bytes: [u8; 8],
 }
 
-// Request #106: how many collections ended with each reason since reset. A count stops at 65,535.
+// Request #106: how many collections ended with each reason, since reset or since a record without counts was
+// upgraded. A count stops at 65,535.
 pub struct Counts {
     // frames accepted
     pub accepted: u16,

@@ -25,8 +25,9 @@
  * and none lost, holds only until then, as it does at any reset of one end alone. The counts go on from the older
  * record's.
  *
- * Records of version 1, of SIMHADOL_RECORD_LENGTH_1 bytes, have no counts and are written no more. simhadol_upgrade
- * makes a record of one, in a second area; every other call answers it with SIMHADOL_BAD_RECORD.
+ * Records of versions 1 and 2, of SIMHADOL_RECORD_LENGTH_1 and SIMHADOL_RECORD_LENGTH_2 bytes, say only whether the
+ * partner was present at all, and those of version 1 have no counts. They are written no more. simhadol_upgrade makes a
+ * record of one, in a second area; every other call answers it with SIMHADOL_BAD_RECORD.
  *
  * POINTERS
  *
@@ -44,9 +45,9 @@
  * 3, 10, 4, 5, 6 is given. Arguments are numbers of sixteen bits: what C cuts off a wider one, no call can see.
  *
  * SIMHADOL_BAD_RECORD, from every call but simhadol_reset and simhadol_upgrade, says that these bytes are not the record
- * of an end: `length` or the record's own length is not SIMHADOL_RECORD_LENGTH, the version is not 2, or a byte is above
- * its largest value. It comes before any other check. Any bytes at all may be given: those that are no record get this
- * answer.
+ * of an end: `length` or the record's own length is not SIMHADOL_RECORD_LENGTH, the version is not 3, or a value is above
+ * the largest of its field. It comes before any other check. Any bytes at all may be given: those that are no record get
+ * this answer.
  */
 #ifndef SIMHADOL_H
 #define SIMHADOL_H
@@ -59,10 +60,14 @@ extern "C" {
 #endif
 
 /* The length of a record in bytes, for arrays. It equals simhadol_record_length(). */
-#define SIMHADOL_RECORD_LENGTH 100
+#define SIMHADOL_RECORD_LENGTH 101
 
-/* The length of a record of version 1, for simhadol_upgrade. */
+/* The lengths of records of version 1 and of version 2, for simhadol_upgrade. */
 #define SIMHADOL_RECORD_LENGTH_1 92
+#define SIMHADOL_RECORD_LENGTH_2 100
+
+/* Presence lapses with this many symbols after the one that completes an accepted frame. */
+#define SIMHADOL_PRESENCE 768
 
 /* What `answer` can be. */
 enum {
@@ -126,8 +131,8 @@ typedef struct simhadol_taken {
 } simhadol_taken;
 
 /*
- * What simhadol_counts gives, by value: how many collections ended with each reason, since simhadol_reset or
- * simhadol_upgrade filled the area. Each count stops at 65,535, which so stands for that many or more.
+ * What simhadol_counts gives, by value: how many collections ended with each reason, since simhadol_reset filled
+ * the area or a record of version 1 was upgraded. Each count stops at 65,535, which so stands for that many or more.
  */
 typedef struct simhadol_counted {
     uint16_t answer;
@@ -137,12 +142,16 @@ typedef struct simhadol_counted {
     uint16_t early;    /* collections broken by an early even symbol */
 } simhadol_counted;
 
-/* Where a record has its counts, two bytes each, the high byte first: for whoever has the bytes but not the library. */
+/*
+ * Where a record has its counts, and how many more symbols without an accepted frame until presence lapses, 0 where the
+ * partner is absent: two bytes each, the high byte first, for whoever has the bytes but not the library.
+ */
 enum {
-    SIMHADOL_ACCEPTED_COUNT = 92,
-    SIMHADOL_CRC_COUNT = 94,
-    SIMHADOL_MARKED_COUNT = 96,
-    SIMHADOL_EARLY_COUNT = 98
+    SIMHADOL_ACCEPTED_COUNT = 91,
+    SIMHADOL_CRC_COUNT = 93,
+    SIMHADOL_MARKED_COUNT = 95,
+    SIMHADOL_EARLY_COUNT = 97,
+    SIMHADOL_PRESENCE_LEFT = 99
 };
 #define SIMHADOL_COUNT_AT(record, at) ((uint16_t)((uint16_t)(record)[at] << 8 | (record)[(at) + 1]))
 
@@ -200,8 +209,9 @@ simhadol_reply simhadol_write(uint8_t *record, size_t length, uint16_t number, u
 simhadol_reply simhadol_set_health(uint8_t *record, size_t length, uint16_t health);
 
 /*
- * Whether the partner is present: whether a frame was accepted since reset. It does not lapse, so it says nothing of
- * the line as it is now. It writes no byte.
+ * Whether the partner is present: whether a frame was accepted within the last SIMHADOL_PRESENCE symbols taken, marked
+ * ones included. The symbol that completes a frame is number 0 after it: with 767 later symbols and no other frame the
+ * partner is still present, with 768 no more. A refused symbol is not taken and does not count. It writes no byte.
  * Answers DONE, with 1 (present) or 0 (not) as the value, or BAD_RECORD.
  */
 simhadol_reply simhadol_present(const uint8_t *record, size_t length);
@@ -213,10 +223,12 @@ simhadol_reply simhadol_present(const uint8_t *record, size_t length);
 simhadol_counted simhadol_counts(const uint8_t *record, size_t length);
 
 /*
- * Fills the area `record` with the record of the end in `old`, which is a record of version 1, with all counts 0. What
- * the area held before does not matter; it may be uninitialised. `old` is only read. The areas must not overlap.
- * Answers DONE, or BAD_RECORD if `old` is anything but a good record of version 1 (a record of version 2 is none), or if
- * `length` is not SIMHADOL_RECORD_LENGTH; no byte is then written.
+ * Fills the area `record` with the record of the end in `old`, which is a record of version 1 or 2. The counts are those
+ * of a record of version 2; after version 1 they are 0. The partner is absent until the next frame is accepted, as
+ * neither version says how long ago the last one was. What the area held before does not matter; it may be
+ * uninitialised. `old` is only read. The areas must not overlap.
+ * Answers DONE, or BAD_RECORD if `old` is anything but a good record of version 1 or 2 (a record of version 3 is none),
+ * or if `length` is not SIMHADOL_RECORD_LENGTH; no byte is then written.
  */
 simhadol_reply simhadol_upgrade(const uint8_t *old, size_t old_length, uint8_t *record, size_t length);
 

@@ -1,8 +1,8 @@
 /*
  * calls: the library's calls from C. What is expected is worked out by hand from document 01, under the names of its
- * cases, and from document 02, #101 and #104 to #106 (one CRC is crcmod's). The tests are in calls_records.c,
- * calls_ends.c, calls_reasons.c, calls_counts.c and calls_upgrades.c. One line for each test, then a count; status 1 if
- * one failed or that could not be printed.
+ * cases, and from document 02, #101 and #104 to #107 (one CRC is crcmod's). The tests are in calls_records.c,
+ * calls_ends.c, calls_reasons.c, calls_counts.c, calls_presence.c and calls_upgrades.c. One line for each test, then a
+ * count; status 1 if one failed or that could not be printed.
  */
 #include "calls.h"
 #include <stdio.h>
@@ -33,7 +33,8 @@ static void check_guards(void)
 
 int main(void)
 {
-    const struct test *const groups[] = {record_tests, end_tests, reason_tests, count_tests, upgrade_tests};
+    const struct test *const groups[] = {record_tests, end_tests,      reason_tests,
+                                         count_tests,  presence_tests, upgrade_tests};
     size_t count = 0, failed = 0;
     for (size_t i = 0; i < sizeof groups / sizeof *groups; i++)
         for (const struct test *test = groups[i]; test->name != NULL; test++) {

@@ -9,9 +9,7 @@
 #include <stdbool.h>
 #include <string.h>
 
-#define LENGTH 100
-/* of version 1 */
-#define LENGTH_1 92
+#define LENGTH 101
 /* odd, so that the record has no alignment */
 #define SIDE 33
 #define ROOM (SIDE + LENGTH + SIDE + 1)
@@ -19,8 +17,8 @@
 
 /* places in a record */
 enum { VERSION = 2, TX = 3, POSITION = 27, READY = 29, HEALTH = 30, PENDING = 32, REGISTER_TOGGLE = 33, NUMBER = 36,
-       BYTES = 38, RX = 46, COUNT = 70, PRESENT = 71, VALID = 75, TOGGLE = 76, EXPECTED_TOGGLE = 79, ACKNOWLEDGE = 80,
-       COUNTS = 92 };
+       BYTES = 38, RX = 46, COUNT = 70, VALID = 74, TOGGLE = 75, EXPECTED_TOGGLE = 78, ACKNOWLEDGE = 79, COUNTS = 91,
+       PRESENCE_LEFT = 99 };
 
 /* two records, each with guards on both sides */
 extern uint8_t room_a[ROOM], room_b[ROOM];
@@ -32,7 +30,7 @@ struct test {
 };
 
 /* The last of each has no name. */
-extern const struct test record_tests[], end_tests[], reason_tests[], count_tests[], upgrade_tests[];
+extern const struct test record_tests[], end_tests[], reason_tests[], count_tests[], presence_tests[], upgrade_tests[];
 
 /* Tells what does not hold, and has the test fail. */
 #define CHECK(what) check(what, #what, __FILE__, __LINE__)
@@ -112,8 +110,14 @@ static inline simhadol_reply upgrade(size_t old_length, size_t length)
 /* Each call but reset and upgrade gives 11 and 0, other faults in its arguments or not. */
 void all_give_11(uint8_t *record, size_t length);
 
-/* The largest value of each byte behind the head. */
+/* The largest value of each byte behind the head, as long as the other of the last two is 0. */
 int largest(size_t place);
+
+/* How many more symbols without a frame until presence lapses. */
+static inline unsigned left(const uint8_t *record)
+{
+    return record[PRESENCE_LEFT] * 256u + record[PRESENCE_LEFT + 1];
+}
 
 /* Symbol n of the twelve that stand at a place of a record. */
 static inline uint16_t symbol_at(const uint8_t *record, size_t place, size_t n)

@@ -11,10 +11,10 @@ static const struct {
     size_t at, length;
     uint16_t symbols[12];
 } events[KINDS] = {
-    {92, 12, {0x000, 0x100, 0x100, 0x100, 0x100, 0x100, 0x100, 0x100, 0x100, 0x100, 0x100, 0x100}}, /* P1 */
-    {94, 12, {0x000, 0x100, 0x100, 0x100, 0x100, 0x100, 0x100, 0x100, 0x100, 0x080, 0x1A0, 0x001}}, /* P3 */
-    {96, 2, {0x000, 0x300}},
-    {98, 1, {0x000}},
+    {91, 12, {0x000, 0x100, 0x100, 0x100, 0x100, 0x100, 0x100, 0x100, 0x100, 0x100, 0x100, 0x100}}, /* P1 */
+    {93, 12, {0x000, 0x100, 0x100, 0x100, 0x100, 0x100, 0x100, 0x100, 0x100, 0x080, 0x1A0, 0x001}}, /* P3 */
+    {95, 2, {0x000, 0x300}},
+    {97, 1, {0x000}},
 };
 enum { EARLY = 3 };
 
@@ -55,8 +55,8 @@ static void layout(void)
     CHECK(sizeof(simhadol_counted) == 10 && offsetof(simhadol_counted, answer) == 0);
     CHECK(offsetof(simhadol_counted, accepted) == 2 && offsetof(simhadol_counted, crc) == 4);
     CHECK(offsetof(simhadol_counted, marked) == 6 && offsetof(simhadol_counted, early) == 8);
-    CHECK(SIMHADOL_ACCEPTED_COUNT == 92 && SIMHADOL_CRC_COUNT == 94);
-    CHECK(SIMHADOL_MARKED_COUNT == 96 && SIMHADOL_EARLY_COUNT == 98);
+    CHECK(SIMHADOL_ACCEPTED_COUNT == 91 && SIMHADOL_CRC_COUNT == 93);
+    CHECK(SIMHADOL_MARKED_COUNT == 95 && SIMHADOL_EARLY_COUNT == 97);
 }
 
 /* The high byte comes first, by the call and by the macro. */

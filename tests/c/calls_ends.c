@@ -99,20 +99,6 @@ static void healths(void)
     CHECK(is(send(a), 0, 0x003));
 }
 
-static void presence(void)
-{
-    CHECK(is(present(a), 0, 0));
-    CHECK(is(take(a, 0x000), 0, 0));
-    for (int i = 1; i < 12; i++) {
-        CHECK(a[COUNT] == i && is(present(a), 0, 0));
-        CHECK(is(take(a, 0x100), 0, 0));
-    }
-    CHECK(a[COUNT] == 0 && a[PRESENT] == 1 && is(present(a), 0, 1));
-    CHECK(symbol_at(a, RX, 0) == 0x000 && symbol_at(a, RX, 11) == 0x100);
-    CHECK(is(simhadol_reset(a, LENGTH), 0, 0));
-    CHECK(is(present(a), 0, 0));
-}
-
 /* The last frame had Valid 0 and Toggle 1, so the next symbol that is not refused settles. */
 static void refused_symbol_settles_nothing(void)
 {
@@ -150,7 +136,6 @@ const struct test end_tests[] = {
     {"P11: the largest symbol", p11_largest_symbol},
     {"the first and the last register", first_and_last_register},
     {"healths 3 and 4", healths},
-    {"presence", presence},
     {"a refused symbol settles nothing", refused_symbol_settles_nothing},
     {"a record is copied and restored", copied_and_restored},
     {NULL, NULL},

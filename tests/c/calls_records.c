@@ -1,18 +1,18 @@
 /*
- * Records, and bytes that are none: document 02, #104, with #106's version 2. A refusal leaves every byte.
+ * Records, and bytes that are none: document 02, #104, with #107's version 3. A refusal leaves every byte.
  */
 #include "calls.h"
 
 static void the_macro_is_the_length(void)
 {
-    CHECK(SIMHADOL_RECORD_LENGTH == LENGTH && SIMHADOL_RECORD_LENGTH_1 == LENGTH_1);
+    CHECK(SIMHADOL_RECORD_LENGTH == LENGTH && SIMHADOL_RECORD_LENGTH_1 == 92 && SIMHADOL_RECORD_LENGTH_2 == 100);
     CHECK(simhadol_record_length() == LENGTH);
 }
 
 /* After reset everything is 0 and the sender is ready. */
 static void is_reset_record(const uint8_t *record)
 {
-    static const uint8_t head[] = {0, 100, 2};
+    static const uint8_t head[] = {0, 101, 3};
     CHECK(memcmp(record, head, sizeof head) == 0);
     CHECK(all(record + TX, READY - TX, 0));
     CHECK(record[READY] == 1);
@@ -28,9 +28,9 @@ static void reset_fills_the_record(void)
     }
 }
 
-static void reset_wants_100_bytes(void)
+static void reset_wants_101_bytes(void)
 {
-    static const size_t lengths[] = {0, 1, 92, 99, 101};
+    static const size_t lengths[] = {0, 1, 92, 100, 102};
     for (size_t i = 0; i < sizeof lengths / sizeof *lengths; i++) {
         memset(room_a, GUARD, sizeof room_a);
         CHECK(is(simhadol_reset(a, lengths[i]), 11, 0));
@@ -92,7 +92,7 @@ static void heads_of_other_values(void)
     }
     CHECK(is(present(a), 0, 0));
     /* little-endian */
-    a[0] = 100, a[1] = 0;
+    a[0] = 101, a[1] = 0;
     a_is_refused(LENGTH);
 }
 
@@ -102,7 +102,7 @@ int largest(size_t place)
         size_t first, last;
         int largest;
     } rows[] = {{27, 27, 11}, {28, 29, 1}, {30, 31, 3}, {32, 35, 1}, {36, 36, 15}, {37, 37, 1},   {38, 45, 255},
-                {70, 70, 11}, {71, 71, 1}, {72, 72, 3}, {73, 82, 1}, {83, 83, 15}, {84, 99, 255}};
+                {70, 70, 11}, {71, 71, 3}, {72, 81, 1}, {82, 82, 15}, {83, 98, 255}, {99, 99, 3}, {100, 100, 255}};
     for (size_t i = 0; i < sizeof rows / sizeof *rows; i++)
         if (rows[i].first <= place && place <= rows[i].last)
             return rows[i].largest;
@@ -146,9 +146,9 @@ static void refusals_leave_the_bytes(void)
 }
 
 const struct test record_tests[] = {
-    {"the macro equals the call: 100; that of version 1 is 92", the_macro_is_the_length},
+    {"the macro equals the call: 101; those of versions 1 and 2 are 92 and 100", the_macro_is_the_length},
     {"reset fills the record, whatever was there", reset_fills_the_record},
-    {"reset on 0, 1, 92, 99 and 101 bytes: 11, nothing written", reset_wants_100_bytes},
+    {"reset on 0, 1, 92, 100 and 102 bytes: 11, nothing written", reset_wants_101_bytes},
     {"NULL with length 0: 11", null_with_length_0},
     {"a good record in areas of other lengths: 11", areas_of_other_lengths},
     {"other length bytes, other versions: 11", heads_of_other_values},

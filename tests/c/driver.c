@@ -11,8 +11,8 @@
  *   X counts              prints the answer, the four counts and the bytes
  *   X upgrade Y           Y is the other one, with the old record: prints the answer, the value, the bytes of X and
  *                         then those of Y
- *   length                prints the macro SIMHADOL_RECORD_LENGTH, what simhadol_record_length gives, and the macro
- *                         SIMHADOL_RECORD_LENGTH_1
+ *   length                prints the macro SIMHADOL_RECORD_LENGTH, what simhadol_record_length gives, and the macros
+ *                         SIMHADOL_RECORD_LENGTH_1 and SIMHADOL_RECORD_LENGTH_2
  *
  * Numbers are decimal, bytes hex. HOW an area is laid:
  *
@@ -159,7 +159,8 @@ static struct area *area_named(struct area areas[2], const char *word)
 static void obey(struct area areas[2], size_t count, char **words)
 {
     if (count == 1 && strcmp(words[0], "length") == 0) {
-        printf("%d %zu %d\n", SIMHADOL_RECORD_LENGTH, simhadol_record_length(), SIMHADOL_RECORD_LENGTH_1);
+        printf("%d %zu %d %d\n", SIMHADOL_RECORD_LENGTH, simhadol_record_length(), SIMHADOL_RECORD_LENGTH_1,
+               SIMHADOL_RECORD_LENGTH_2);
         return;
     }
     struct area *area = count < 2 ? NULL : area_named(areas, words[0]);

@@ -27,8 +27,11 @@ int main()
     good = good && SIMHADOL_COUNT_AT(record, SIMHADOL_CRC_COUNT) == 0;
     good = good && SIMHADOL_COUNT_AT(record, SIMHADOL_MARKED_COUNT) == 1;
     good = good && SIMHADOL_COUNT_AT(record, SIMHADOL_EARLY_COUNT) == 0;
-    const uint8_t old[SIMHADOL_RECORD_LENGTH_1] = {0, SIMHADOL_RECORD_LENGTH_1, 1};
-    good = good && simhadol_upgrade(old, sizeof old, record, sizeof record).answer == SIMHADOL_DONE;
+    good = good && SIMHADOL_COUNT_AT(record, SIMHADOL_PRESENCE_LEFT) == 0 && SIMHADOL_PRESENCE == 768;
+    const uint8_t first[SIMHADOL_RECORD_LENGTH_1] = {0, SIMHADOL_RECORD_LENGTH_1, 1};
+    good = good && simhadol_upgrade(first, sizeof first, record, sizeof record).answer == SIMHADOL_DONE;
+    const uint8_t second[SIMHADOL_RECORD_LENGTH_2] = {0, SIMHADOL_RECORD_LENGTH_2, 2};
+    good = good && simhadol_upgrade(second, sizeof second, record, sizeof record).answer == SIMHADOL_DONE;
     good = good && simhadol_upgrade(record, sizeof record, NULL, 0).answer == SIMHADOL_BAD_RECORD;
     return good ? 0 : 1;
 }

@@ -1,5 +1,5 @@
 //! One end: document 01, "Sending, one symbol a slot" and "Taking, one symbol", with the reason of document 02, #105,
-//! and the counts of #106. The registers are in `registers`.
+//! the counts of #106 and the presence of #107. The registers are in `registers`.
 //!
 //! Every field is public, as any end may come in; one that is out of range is answered 1 and left as it was.
 
@@ -10,6 +10,8 @@ pub const LARGEST_HEALTH: u16 = 3;
 const LARGEST_NUMBER: u8 = 15;
 const LARGEST_STORED: u16 = 511;
 const LAST: u8 = SYMBOLS as u8 - 1;
+/// So many symbols later than the last accepted frame the partner is absent.
+pub const PRESENCE: u16 = 768;
 
 #[derive(Clone, Debug, Default, PartialEq, Eq)]
 pub struct End {
@@ -31,7 +33,6 @@ pub struct End {
     /// The collection.
     pub rx: Frame,
     pub count: u8,
-    pub present: bool,
     /// From here to `togack`: what the last accepted frame said.
     pub partner_health: u8,
     /// Its PingRx.
@@ -54,6 +55,29 @@ pub struct End {
     pub crc_count: u16,
     pub marked_count: u16,
     pub early_count: u16,
+    pub silence: Silence,
+}
+
+/// How many symbols were taken after the one that completed the last accepted frame: 768 stands for more, and for no
+/// frame at all. Below 0 it is out of range.
+#[derive(Clone, Copy, Debug, PartialEq, Eq)]
+pub struct Silence(i32);
+
+impl Default for Silence {
+    fn default() -> Silence {
+        Silence::of_left(0)
+    }
+}
+
+impl Silence {
+    /// From how many more symbols without a frame it takes until presence lapses.
+    pub fn of_left(left: u16) -> Silence {
+        Silence(i32::from(PRESENCE) - i32::from(left))
+    }
+
+    pub fn left(self) -> u16 {
+        (i32::from(PRESENCE) - self.0) as u16
+    }
 }
 
 /// What became of a collection, at its twelfth symbol or where it is broken. An empty one can't be broken.
@@ -81,6 +105,7 @@ impl End {
             && [self.health, self.loaded_health, self.partner_health].iter().all(|h| u16::from(*h) <= LARGEST_HEALTH)
             && self.number <= LARGEST_NUMBER
             && self.rx_number <= LARGEST_NUMBER
+            && self.silence.0 >= 0
     }
 
     pub fn send(&mut self) -> (Answer, u16) {
@@ -143,6 +168,10 @@ impl End {
         self.settle();
         let reason = self.collect(symbol);
         self.count_up(reason);
+        self.silence = match reason {
+            Some(Reason::Accepted) => Silence(0),
+            _ => Silence(i32::from(PRESENCE).min(self.silence.0 + 1)),
+        };
         (Answer::Done, reason)
     }
 
@@ -195,7 +224,6 @@ impl End {
     /// Taking step 3, the CRC being right.
     fn accept(&mut self) {
         let bit = |place: usize, n: u16| self.rx[place] >> n & 1 == 1;
-        self.present = true;
         self.partner_health = data_of(self.rx[0]) & 3;
         self.ping_got = bit(0, 3);
         self.partner_ping = bit(0, 2);
@@ -231,6 +259,6 @@ impl End {
     }
 
     pub fn is_present(&self) -> bool {
-        self.is_good() && self.present
+        self.is_good() && self.silence.0 < i32::from(PRESENCE)
     }
 }

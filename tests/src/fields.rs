@@ -1,6 +1,6 @@
 //! The fields of an end by name, as `dump` writes and `set` takes them: one table for both.
 
-use crate::end::End;
+use crate::end::{End, Silence};
 
 pub enum Field<'a> {
     Bool(&'a mut bool),
@@ -8,11 +8,13 @@ pub enum Field<'a> {
     Word(&'a mut u16),
     Symbols(&'a mut [u16]),
     Bytes(&'a mut [u8]),
+    /// By how many symbols are left until presence lapses.
+    Left(&'a mut Silence),
 }
 
 /// All fields, in the order of `dump`.
 pub fn fields(end: &mut End) -> [(&'static str, Field<'_>); 33] {
-    use Field::{Bool, Byte, Bytes, Symbols, Word};
+    use Field::{Bool, Byte, Bytes, Left, Symbols, Word};
     [
         ("tx", Symbols(&mut end.tx)),
         ("position", Byte(&mut end.position)),
@@ -29,7 +31,6 @@ pub fn fields(end: &mut End) -> [(&'static str, Field<'_>); 33] {
         ("bytes", Bytes(&mut end.bytes)),
         ("rx", Symbols(&mut end.rx)),
         ("count", Byte(&mut end.count)),
-        ("present", Bool(&mut end.present)),
         ("partner_health", Byte(&mut end.partner_health)),
         ("ping_got", Bool(&mut end.ping_got)),
         ("partner_ping", Bool(&mut end.partner_ping)),
@@ -47,6 +48,7 @@ pub fn fields(end: &mut End) -> [(&'static str, Field<'_>); 33] {
         ("crc_count", Word(&mut end.crc_count)),
         ("marked_count", Word(&mut end.marked_count)),
         ("early_count", Word(&mut end.early_count)),
+        ("presence_left", Left(&mut end.silence)),
     ]
 }
 
@@ -56,14 +58,14 @@ impl Field<'_> {
         match self {
             Field::Bool(_) => 1,
             Field::Byte(_) | Field::Bytes(_) => 0xFF,
-            Field::Word(_) | Field::Symbols(_) => 0xFFFF,
+            Field::Word(_) | Field::Symbols(_) | Field::Left(_) => 0xFFFF,
         }
     }
 
     /// The number of elements of an array, none for a single value.
     pub fn elements(&self) -> Option<usize> {
         match self {
-            Field::Bool(_) | Field::Byte(_) | Field::Word(_) => None,
+            Field::Bool(_) | Field::Byte(_) | Field::Word(_) | Field::Left(_) => None,
             Field::Symbols(symbols) => Some(symbols.len()),
             Field::Bytes(bytes) => Some(bytes.len()),
         }
@@ -77,6 +79,7 @@ impl Field<'_> {
             Field::Word(word) => **word = value,
             Field::Symbols(symbols) => symbols[index] = value,
             Field::Bytes(bytes) => bytes[index] = value as u8,
+            Field::Left(silence) => **silence = Silence::of_left(value),
         }
     }
 
@@ -87,6 +90,7 @@ impl Field<'_> {
             Field::Word(word) => vec![**word],
             Field::Symbols(symbols) => symbols.to_vec(),
             Field::Bytes(bytes) => bytes.iter().map(|byte| u16::from(*byte)).collect(),
+            Field::Left(silence) => vec![silence.left()],
         }
     }
 }

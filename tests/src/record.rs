@@ -1,7 +1,8 @@
-//! An end as a record of bytes, and the calls on one: document 02, #104, #105's reason, and #106.
+//! An end as a record of bytes, and the calls on one: document 02, #104, #105's reason, #106 and #107.
 //!
 //! Two bytes of length, big-endian, counting the whole record; one version byte; then the end, field by field in the
-//! order of `fields`. A symbol or a count has two bytes, the high one first; everything else has one. Version 1 has no
+//! order of `fields`. What can be above 255 has two bytes, the high one first; everything else has one. Versions 1 and
+//! 2 have a bool more, `present`, before the partner's health, and not what is left of presence; version 1 has no
 //! counts.
 
 use crate::answer::Answer;
@@ -9,10 +10,10 @@ use crate::end::{End, Reason};
 use crate::fields::{fields, Field};
 use std::fmt;
 
-pub const LENGTH: usize = 100;
-pub const VERSION: u8 = 2;
-const LENGTH_1: usize = 92;
-const VERSION_1: u8 = 1;
+pub const LENGTH: usize = 101;
+pub const VERSION: u8 = 3;
+/// Versions that are still read, with their lengths.
+const OLD: [(u8, usize); 2] = [(1, 92), (2, 100)];
 
 /// The calls. Written out, one is the driver's command for it.
 #[derive(Clone, Copy, Debug, PartialEq, Eq)]
@@ -125,10 +126,10 @@ fn reason_numbers(reason: Option<Reason>) -> (u16, u16) {
     }
 }
 
-/// Fills the area with the record of the end in a good record of version 1, all counts 0. Anything else is answered 11,
-/// and leaves the area.
+/// Fills the area with the record of the end in a good record of version 1 or 2: what that does not have is 0, so the
+/// partner is absent. Anything else is answered 11, and leaves the area.
 pub fn upgrade(old: &[u8], area: &mut [u8]) -> Answer {
-    match read(old, LENGTH_1, VERSION_1) {
+    match OLD.iter().find_map(|(version, length)| read(old, *length, *version)) {
         Some(end) if area.len() == LENGTH => {
             area.copy_from_slice(&record_of(&end));
             Answer::Done
@@ -164,8 +165,16 @@ fn read(record: &[u8], length: usize, version: u8) -> Option<End> {
         return None;
     }
     let mut end = End::default();
-    for (_, mut field) in fields(&mut end) {
-        if version == VERSION_1 && matches!(field, Field::Word(_)) {
+    for (name, mut field) in fields(&mut end) {
+        if version < VERSION && name == "partner_health" {
+            // `present`: that a frame was accepted, but not when
+            let (present, behind) = rest.split_first()?;
+            if *present > 1 {
+                return None;
+            }
+            rest = behind;
+        }
+        if version < first_version(&field) {
             continue;
         }
         for index in 0..field.elements().unwrap_or(1) {
@@ -179,12 +188,21 @@ fn read(record: &[u8], length: usize, version: u8) -> Option<End> {
         }
     }
     // What answer 1 would meet is a value out of range.
-    end.is_good().then(|| end)
+    end.is_good().then_some(end)
+}
+
+/// The version in which a record had the field first.
+fn first_version(field: &Field) -> u8 {
+    match field {
+        Field::Left(_) => 3,
+        Field::Word(_) => 2,
+        _ => 1,
+    }
 }
 
 fn width(field: &Field) -> usize {
     match field {
-        Field::Symbols(_) | Field::Word(_) => 2,
+        Field::Symbols(_) | Field::Word(_) | Field::Left(_) => 2,
         Field::Bool(_) | Field::Byte(_) | Field::Bytes(_) => 1,
     }
 }

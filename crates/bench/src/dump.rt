@@ -83,7 +83,7 @@ fn value(end: End, field: usize, i: usize) -> u16 {
             let part = end.collector;
             collector_value(part, field, i)
         }
-        fields::PRESENT..=fields::TOGACK => {
+        fields::PARTNER_HEALTH..=fields::TOGACK => {
             let part = end.heard;
             heard_value(part, field)
         }
@@ -95,6 +95,7 @@ fn value(end: End, field: usize, i: usize) -> u16 {
             let part = end.counts;
             counts_value(part, field)
         }
+        fields::PRESENCE_LEFT => end.presence,
         _ => 0,
     }
 }
@@ -134,7 +135,6 @@ fn collector_value(part: Collector, field: usize, i: usize) -> u16 {
 
 fn heard_value(part: Heard, field: usize) -> u16 {
     match field {
-        fields::PRESENT => bit(part.present),
         fields::PARTNER_HEALTH => wide(part.health),
         fields::PING_GOT => bit(part.got),
         fields::PARTNER_PING => bit(part.ping),

@@ -5,12 +5,13 @@ use crate::words::index_of;
 ghost use Prim.Native.Nat.{_≤_};
 
 // The names, in dump's order, and the place of each.
-pub const NAMES: [u8; 313] = *b"tx position sending_toggle ready health loaded_health \
+pub const NAMES: [u8; 319] = *b"tx position sending_toggle ready health loaded_health \
     pending register_toggle received received_toggle number ping_tx bytes \
     rx count \
-    present partner_health ping_got partner_ping valid toggle ack togack \
+    partner_health ping_got partner_ping valid toggle ack togack \
     expected_toggle acknowledge full rx_toggle rx_number rx_bytes \
-    accepted_count crc_count marked_count early_count";
+    accepted_count crc_count marked_count early_count \
+    presence_left";
 
 pub const TX: usize = 0;
 
@@ -42,41 +43,41 @@ pub const RX: usize = 13;
 
 pub const COUNT: usize = 14;
 
-pub const PRESENT: usize = 15;
+pub const PARTNER_HEALTH: usize = 15;
 
-pub const PARTNER_HEALTH: usize = 16;
+pub const PING_GOT: usize = 16;
 
-pub const PING_GOT: usize = 17;
+pub const PARTNER_PING: usize = 17;
 
-pub const PARTNER_PING: usize = 18;
+pub const VALID: usize = 18;
 
-pub const VALID: usize = 19;
+pub const TOGGLE: usize = 19;
 
-pub const TOGGLE: usize = 20;
+pub const ACK: usize = 20;
 
-pub const ACK: usize = 21;
+pub const TOGACK: usize = 21;
 
-pub const TOGACK: usize = 22;
+pub const EXPECTED_TOGGLE: usize = 22;
 
-pub const EXPECTED_TOGGLE: usize = 23;
+pub const ACKNOWLEDGE: usize = 23;
 
-pub const ACKNOWLEDGE: usize = 24;
+pub const FULL: usize = 24;
 
-pub const FULL: usize = 25;
+pub const RX_TOGGLE: usize = 25;
 
-pub const RX_TOGGLE: usize = 26;
+pub const RX_NUMBER: usize = 26;
 
-pub const RX_NUMBER: usize = 27;
+pub const RX_BYTES: usize = 27;
 
-pub const RX_BYTES: usize = 28;
+pub const ACCEPTED_COUNT: usize = 28;
 
-pub const ACCEPTED_COUNT: usize = 29;
+pub const CRC_COUNT: usize = 29;
 
-pub const CRC_COUNT: usize = 30;
+pub const MARKED_COUNT: usize = 30;
 
-pub const MARKED_COUNT: usize = 31;
+pub const EARLY_COUNT: usize = 31;
 
-pub const EARLY_COUNT: usize = 32;
+pub const PRESENCE_LEFT: usize = 32;
 
 pub const FIELDS: usize = 33;
 
@@ -98,12 +99,12 @@ pub fn elements(field: usize) -> usize
     }
 }
 
-// The largest value of a field: a symbol or a count sixteen bits, a bool 1, any other a byte.
+// The largest value of a field: a symbol, a count or what is left of presence sixteen bits, a bool 1, any other a byte.
 pub fn largest(field: usize) -> u32
     ensures { λ r. ⌜ r ≤ 65535 ⌝ }
 {
     match field {
-        TX | RX | ACCEPTED_COUNT | CRC_COUNT | MARKED_COUNT | EARLY_COUNT => MOST,
+        TX | RX | ACCEPTED_COUNT | CRC_COUNT | MARKED_COUNT | EARLY_COUNT | PRESENCE_LEFT => MOST,
         POSITION
         | HEALTH
         | LOADED_HEALTH

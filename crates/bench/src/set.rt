@@ -20,7 +20,7 @@ pub fn written(mut end: End, field: usize, i: usize, value: u16) -> End {
             i,
             value,
         ),
-        fields::PRESENT..=fields::TOGACK => end.heard = heard_with(end.heard, field, value),
+        fields::PARTNER_HEALTH..=fields::TOGACK => end.heard = heard_with(end.heard, field, value),
         fields::EXPECTED_TOGGLE..=fields::RX_BYTES => end.inbox = inbox_with(
             end.inbox,
             field,
@@ -32,6 +32,7 @@ pub fn written(mut end: End, field: usize, i: usize, value: u16) -> End {
             field,
             value,
         ),
+        fields::PRESENCE_LEFT => end.presence = value,
         _ => {}
     }
     end
@@ -82,7 +83,6 @@ fn heard_with(mut part: Heard, field: usize, value: u16) -> Heard {
     let byte = (value % 256) as u8;
     let set = value == 1;
     match field {
-        fields::PRESENT => part.present = set,
         fields::PARTNER_HEALTH => part.health = byte,
         fields::PING_GOT => part.got = set,
         fields::PARTNER_PING => part.ping = set,

@@ -25,6 +25,7 @@ use Rattle.frame.specs.Reason.{isAccepted}
 use Rattle.end.specs.declared.Collector.{Collector}
 use Rattle.end.specs.declared.End.{End}
 use Rattle.end.specs.Good.{above, bad}
+use Rattle.end.specs.Presence.{lasting}
 use Rattle.end.specs.Sending.{frameStart, started, slotOf}
 use Rattle.end.specs.Taking.{endedBy}
 
@@ -98,7 +99,7 @@ eight (a ∷ b ∷ c ∷ d ∷ e ∷ f ∷ g ∷ i ∷ j ∷ l) h = absurd (omeg
 
 -- Ends
 
-pub record Limits (p c : ℕ) (sent collected : List ℕ) (h l q n m : ℕ) : Type 0 where
+pub record Limits (p c : ℕ) (sent collected : List ℕ) (h l q n m left : ℕ) : Type 0 where
   pub position : p ≤ 11
   pub count : c ≤ 11
   pub sending : above 511 sent ≡ false
@@ -108,11 +109,13 @@ pub record Limits (p c : ℕ) (sent collected : List ℕ) (h l q n m : ℕ) : Ty
   pub partner : q ≤ 3
   pub number : n ≤ 15
   pub got : m ≤ 15
+  pub presence : left ≤ lasting
 
 abbrev pub Good : End → Type 0
 Good e =
     Limits (e .sender .position) (e .collector .count) (e .sender .symbols) (e .collector .symbols)
     (e .sender .health) (e .sender .loaded) (e .heard .health) (e .outbox .number) (e .inbox .number)
+    (e .presence)
 
 pub good : (e : End) → bad e ≡ false → Good e
 unfolding bad
@@ -125,6 +128,7 @@ good e h =
     let g = or-no _ _ (f .1) in
     let i = or-no _ _ (g .1) in
     let j = or-no _ _ (i .1) in
+    let k = or-no _ _ (j .1) in
     record {
       position = ltb-false _ _ (a .0);
       count = ltb-false _ _ (b .0);
@@ -134,7 +138,8 @@ good e h =
       loaded = ltb-false _ _ (g .0);
       partner = ltb-false _ _ (i .0);
       number = ltb-false _ _ (j .0);
-      got = ltb-false _ _ (j .1);
+      got = ltb-false _ _ (k .0);
+      presence = ltb-false _ _ (k .1);
     }
 
 pub count-is : (c : Collector) (n : ℕ) → c .count ≡ n → c ≡ record { symbols = c .symbols; count = n }

@@ -71,6 +71,7 @@ emptied kept e = record {
     bytes = e .inbox .bytes;
   };
   counts = e .counts;
+  presence = e .presence;
 }
 
 pub read-received : (e : End) (i : ℕ) → bad e ≡ false → i < 4 →
@@ -173,6 +174,7 @@ pub write-message : (e : End) (i v : ℕ) → bad e ≡ false → e .outbox .pen
         heard = e .heard;
         inbox = e .inbox;
         counts = e .counts;
+        presence = e .presence;
       };
     }
 write-message e i v b p =
@@ -187,6 +189,7 @@ write-message e i v b p =
         heard = e .heard;
         inbox = e .inbox;
         counts = e .counts;
+        presence = e .presence;
       };
     })
     (write-done e 2309 v b refl refl refl (and-no _ p))

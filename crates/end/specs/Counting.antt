@@ -4,7 +4,6 @@
 --   more n        one more, on a count of n
 --   tallied r k   the counts k after a symbol of which the reason r was given
 --   listed k      the four counts in the order of the record
---   withCounts k e   the end e, with the counts k for its own
 -- Assumes nothing.
 use Prim.Native.Nat.{ℕ, _+_}
 use mathlib.Core.Bool.{cond}
@@ -13,7 +12,6 @@ use lib.Dec.{ltb}
 use Rattle.frame.specs.declared.reason.Reason.{Reason}
 use Rattle.frame.specs.declared.reason.Reason.the-variants.{Nothing, Accepted, Crc, Marked, Parity}
 use Rattle.end.specs.declared.Counts.{Counts}
-use Rattle.end.specs.declared.End.{End}
 
 abbrev pub noCounts : Counts
 noCounts = record { accepted = 0; crc = 0; marked = 0; early = 0 }
@@ -33,13 +31,3 @@ tallied (Parity n) k = record { accepted = k .accepted; crc = k .crc; marked = k
 
 abbrev pub listed : Counts → List ℕ
 listed k = k .accepted ∷ k .crc ∷ k .marked ∷ k .early ∷ []
-
-abbrev pub withCounts : Counts → End → End
-withCounts k e = record {
-  sender = e .sender;
-  outbox = e .outbox;
-  collector = e .collector;
-  heard = e .heard;
-  inbox = e .inbox;
-  counts = k;
-}

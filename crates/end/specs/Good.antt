@@ -1,9 +1,9 @@
 -- Answer 1 of document 01, the end after reset, and presence.
 --   above b l     some number of l is above b
---   bad e         what answer 1 meets: a position or count above 11, a stored symbol above 511, a health above 3 or a
---                 number above 15
+--   bad e         what answer 1 meets: a position or count above 11, a stored symbol above 511, a health above 3, a
+--                 number above 15 or (request #107) a presence above 768
 --   resetOf       everything 0, the sender ready, the position 0
---   presentOf e   a frame was accepted since reset; no for an end that answer 1 meets
+--   presentOf e   something is left of presence; no for an end that answer 1 meets
 -- Assumes nothing.
 use Prim.Native.Nat.{ℕ}
 use mathlib.Core.Bool.{Bool, true, false, not, _&&_, _||_}
@@ -12,6 +12,7 @@ use lib.Dec.{ltb}
 use lib.ListN.{replicate}
 use Rattle.end.specs.declared.End.{End}
 use Rattle.end.specs.Counting.{noCounts}
+use Rattle.end.specs.Presence.{lasting}
 
 unfoldable pub above : ℕ → List ℕ → Bool
 above b [] = false
@@ -27,7 +28,8 @@ bad e =
     || (ltb 3 (e .sender .loaded)
     || (ltb 3 (e .heard .health)
     || (ltb 15 (e .outbox .number)
-    || ltb 15 (e .inbox .number))))))))
+    || (ltb 15 (e .inbox .number)
+    || ltb lasting (e .presence)))))))))
 
 abbrev pub resetOf : End
 resetOf = record {
@@ -43,7 +45,6 @@ resetOf = record {
   };
   collector = record { symbols = replicate 12 0; count = 0 };
   heard = record {
-    present = false;
     health = 0;
     got = false;
     ping = false;
@@ -61,7 +62,8 @@ resetOf = record {
     bytes = replicate 8 0;
   };
   counts = noCounts;
+  presence = 0;
 }
 
 unfoldable pub presentOf : End → Bool
-presentOf e = not (bad e) && e .heard .present
+presentOf e = not (bad e) && ltb 0 (e .presence)

@@ -1,4 +1,5 @@
 pub mod Counting
+pub mod Presence
 pub mod Good
 pub mod Sending
 pub mod Taking

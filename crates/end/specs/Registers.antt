@@ -77,6 +77,7 @@ readEnd e r = record {
     bytes = e .inbox .bytes;
   };
   counts = e .counts;
+  presence = e .presence;
 }
 
 unfoldable pub readOf : End → ℕ → Got
@@ -139,6 +140,7 @@ written e r v = record {
   heard = e .heard;
   inbox = e .inbox;
   counts = e .counts;
+  presence = e .presence;
 }
 
 unfoldable pub writeOf : End → ℕ → ℕ → Next
@@ -172,6 +174,7 @@ withHealth e h = record {
   heard = e .heard;
   inbox = e .inbox;
   counts = e .counts;
+  presence = e .presence;
 }
 
 unfoldable pub healthOf : End → ℕ → Next

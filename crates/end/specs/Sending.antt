@@ -51,6 +51,7 @@ stepOne a e = record {
   heard = e .heard;
   inbox = e .inbox;
   counts = e .counts;
+  presence = e .presence;
 }
 
 abbrev pub loads : End → Bool
@@ -106,6 +107,7 @@ stepsTwoToFour a l e = record {
   heard = e .heard;
   inbox = e .inbox;
   counts = e .counts;
+  presence = e .presence;
 }
 
 unfoldable pub frameStart : End → End
@@ -127,6 +129,7 @@ movedOn e = record {
   heard = e .heard;
   inbox = e .inbox;
   counts = e .counts;
+  presence = e .presence;
 }
 
 -- the end whose symbol goes out in this slot, where n says that a new frame is made
@@ -138,6 +141,7 @@ started n e = record {
   heard = e .heard;
   inbox = e .inbox;
   counts = e .counts;
+  presence = e .presence;
 }
 
 -- the end of this slot: at position 0 a frame is made

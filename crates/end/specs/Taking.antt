@@ -8,7 +8,8 @@
 --   endedBy s n l  request #105: what becomes with the symbol s of a collection of n symbols, l being its symbols then
 --   reasonBy s c   that of the collection c
 --   enters, entered   step 3's second test: the register empty, Valid 1, Toggle the expected one; and the entering
---   taken s e      the three steps, with what became of the collection counted (request #106)
+--   taken s e      the three steps, with what became of the collection counted (request #106), and presence begun anew
+--                  or one symbol older (request #107)
 --   tookOf s e     what they give
 --   takeOf e s     what take gives
 -- Assumes nothing.
@@ -29,6 +30,7 @@ use Rattle.end.specs.declared.Inbox.{Inbox}
 use Rattle.end.specs.declared.Taken.{Taken}
 use Rattle.end.specs.Counting.{tallied}
 use Rattle.end.specs.Good.{bad}
+use Rattle.end.specs.Presence.{leftAfter}
 
 -- 1. Settle
 abbrev pub releases : End → Bool
@@ -72,7 +74,6 @@ collected s c = record { symbols = placed s c; count = counted s c }
 -- 3. With the twelfth symbol
 abbrev pub saidBy : List ℕ → Heard
 saidBy l = record {
-  present = true;
   health = getD l 0 0 % 4;
   got = odd (getD l 0 0 / 8);
   ping = odd (getD l 0 0 / 4);
@@ -100,7 +101,6 @@ reasonBy s c = endedBy s (c .count) (placed s c)
 -- one of two, field by field
 abbrev pub pickHeard : Bool → Heard → Heard → Heard
 pickHeard b x y = record {
-  present = cond b (x .present) (y .present);
   health = cond b (x .health) (y .health);
   got = cond b (x .got) (y .got);
   ping = cond b (x .ping) (y .ping);
@@ -136,6 +136,7 @@ taken s e = record {
       (placed s (e .collector))
       (settled e);
   counts = tallied (reasonBy s (e .collector)) (e .counts);
+  presence = leftAfter (accepts s (e .collector)) (e .presence);
 }
 
 abbrev pub tookOf : ℕ → End → Taken

@@ -4,6 +4,7 @@ use crate::Counts;
 use crate::End;
 use crate::Heard;
 use crate::Inbox;
+use crate::LASTING;
 use crate::Outbox;
 use crate::Sender;
 ghost use mathlib.Core.Path.{_≡_};
@@ -37,7 +38,6 @@ impl End {
                 count: 0,
             },
             heard: Heard {
-                present: false,
                 health: 0,
                 got: false,
                 ping: false,
@@ -60,21 +60,23 @@ impl End {
                 marked: 0,
                 early: 0,
             },
+            presence: 0,
         }
     }
 
-    // Partner present: a frame was accepted since reset. An end that answer 1 would meet says no.
+    // Partner present: a frame was accepted within the last 768 symbols taken. An end that answer 1 would meet says no.
     pub fn present(self) -> bool
         ensures { λ r. ⌜ r ≡ presentOf self ⌝ }
     {
         if bad(self) {
             return false;
         }
-        self.heard.present
+        self.presence > 0
     }
 }
 
-// Answer 1: a position or count above 11, a stored symbol above 511, a health above 3 or a number above 15.
+// Answer 1: a position or count above 11, a stored symbol above 511, a health above 3, a number above 15 or a presence
+// above 768.
 pub fn bad(end: End) -> bool
     ensures { λ r. ⌜ r ≡ bad end ⌝ }
 {
@@ -89,6 +91,7 @@ pub fn bad(end: End) -> bool
         | (end.heard.health > 3)
         | (end.outbox.number > 15)
         | (end.inbox.number > 15)
+        | (end.presence > LASTING)
 }
 
 // Some symbol is above the limit.

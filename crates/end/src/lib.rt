@@ -6,6 +6,7 @@
 mod counting;
 mod good;
 mod message;
+mod presence;
 mod reading;
 mod registers;
 mod sending;
@@ -14,6 +15,9 @@ mod writing;
 
 use answer::Answer;
 use frame::reason::Reason;
+
+// Request #107: presence lapses with this many symbols after the one that completes an accepted frame.
+pub const LASTING: u16 = 768;
 
 // The sending side: the twelve symbols being sent and where the next slot is.
 pub struct Sender {
@@ -47,9 +51,8 @@ pub struct Collector {
     pub count: u8,
 }
 
-// What the last accepted frame said, and whether there was one.
+// What the last accepted frame said.
 pub struct Heard {
-    pub present: bool,
     pub health: u8,
     // PingRx as got, and the partner's PingTx, which is echoed
     pub got: bool,
@@ -90,6 +93,8 @@ pub struct End {
     pub heard: Heard,
     pub inbox: Inbox,
     pub counts: Counts,
+    // how many more symbols without an accepted frame until presence lapses; 0 where the partner is absent
+    pub presence: u16,
 }
 
 // What send gives: the symbol of this slot.

@@ -7,6 +7,7 @@ use crate::Taken;
 use crate::counting::tally;
 use crate::good::bad;
 use crate::message::message_of;
+use crate::presence::left_after;
 use answer::Answer;
 use frame::reason::Reason;
 ghost use mathlib.Core.Path.{_≡_};
@@ -18,7 +19,7 @@ ghost use Rattle.end.specs.Taking.{tookOf, takeOf};
 
 impl End {
     // Settle, collect and, with the twelfth symbol of a frame whose CRC is right, accept and enter. Says what became of
-    // the collection, and counts it.
+    // the collection, and counts it. A symbol that is refused does not age presence.
     pub fn take(self, symbol: u16) -> Taken
         ensures { λ r. ⌜ r ≡ takeOf self symbol ⌝ }
     {
@@ -40,7 +41,7 @@ impl End {
     }
 }
 
-// The three steps, and what became of the collection is counted.
+// The three steps; what became of the collection is counted, and presence begins anew or is one symbol older.
 fn taken(symbol: u16, mut end: End) -> Taken
     requires { ⌜ bad end ≡ false ⌝ }
     ensures { λ r. ⌜ r ≡ tookOf symbol end ⌝ }
@@ -56,10 +57,12 @@ fn taken(symbol: u16, mut end: End) -> Taken
     let entered = enter(accepted, symbols, inbox);
     let so_far = end.counts;
     let counts = tally(reason, so_far);
+    let presence = left_after(accepted, end.presence);
     end.collector = collector;
     end.heard = heard;
     end.inbox = entered;
     end.counts = counts;
+    end.presence = presence;
     Taken {
         answer: Answer::Done,
         reason,
@@ -152,7 +155,6 @@ fn said_by(symbols: [u16; 12]) -> Heard
     let zero = symbols[0];
     let one = symbols[1];
     Heard {
-        present: true,
         health: (zero % 4) as u8,
         got: zero / 8 % 2 == 1,
         ping: zero / 4 % 2 == 1,

@@ -1,6 +1,7 @@
 -- No call leads from an end that answer 1 does not meet to one that it meets.
---   Limits, Good e   the nine numbers and arrays that answer 1 looks at, each within its limit (of crate end)
+--   Limits, Good e   the ten numbers and arrays that answer 1 looks at, each within its limit (of crate end)
 --   good, good-not   an end is Good exactly when answer 1 does not meet it
+--   left-below       presence stays within its limit
 --   reset-good, after-good, calls-good, reached-good, reached-shaped
 -- Assumes nothing.
 use Prim.Native.Nat.{ℕ, _≤_, _+_, _/_, _%_}
@@ -17,6 +18,7 @@ use Rattle.frame.specs.Frame.{build}
 use Rattle.end.specs.declared.End.{End}
 use Rattle.end.specs.declared.Collector.{Collector}
 use Rattle.end.specs.Good.{above, bad, resetOf}
+use Rattle.end.specs.Presence.{lasting, leftAfter}
 use Rattle.end.specs.Sending.{frameStart, started, slotOf, movedOn}
 use Rattle.end.specs.Taking.{placed, counted, accepts, taken}
 use Rattle.end.specs.Registers.{written}
@@ -36,7 +38,8 @@ good-not e g =
     (or-none _ _ (g .collecting)
     (or-none _ _ (le-ltb _ _ (g .health))
     (or-none _ _ (le-ltb _ _ (g .loaded))
-    (or-none _ _ (le-ltb _ _ (g .partner)) (or-none _ _ (le-ltb _ _ (g .number)) (le-ltb _ _ (g .got)))))))))
+    (or-none _ _ (le-ltb _ _ (g .partner)) (or-none _ _ (le-ltb _ _ (g .number))
+    (or-none _ _ (le-ltb _ _ (g .got)) (le-ltb _ _ (g .presence))))))))))
 
 pub reset-good : bad resetOf ≡ false
 unfolding bad above
@@ -71,6 +74,10 @@ four-below n = omega arith
 sixteen-below : (n : ℕ) → n % 16 ≤ 15
 sixteen-below n = omega arith
 
+pub left-below : (a : Bool) (n : ℕ) → n ≤ lasting → leftAfter a n ≤ lasting
+left-below true n h = omega arith
+left-below false n h = omega arith
+
 taken-good : (s : ℕ) (e : End) → Good e → Good (taken s e)
 unfolding taken
 taken-good s e g =
@@ -80,7 +87,7 @@ taken-good s e g =
     let got =
     either (λ (n : ℕ). n ≤ 15) (entersNow s e) _ (e .inbox .number)
     (λ _. sixteen-below (getD (placed s (e .collector)) 1 0)) (λ _. g .got) in
-    search (counted-below, placed-below)
+    search (counted-below, placed-below, left-below)
 
 written-good : (e : End) (r v : ℕ) → Good e → Good (written e r v)
 written-good e r v g =

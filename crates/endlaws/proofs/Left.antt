@@ -40,6 +40,7 @@ written-leaves e r v b = record {
   heard = refl;
   inbox = refl;
   counts = refl;
+  presence = refl;
   toggle = cond-same (eqb r 2308) (e .outbox .toggle);
   received = cond-same (eqb r 2308) (e .outbox .received);
   confirmed = cond-same (eqb r 2308) (e .outbox .confirmed);

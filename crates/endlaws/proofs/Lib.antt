@@ -13,5 +13,5 @@ pub mod Accepted
 pub mod Reasons
 pub mod Counted
 pub mod Apart
-pub mod Through
 pub mod Presence
+pub mod Through

@@ -37,7 +37,8 @@ met-holds e =
     (or-cases _ _ (λ t. Met.health (ltb-true _ _ t))
     (or-cases _ _ (λ t. Met.loaded (ltb-true _ _ t))
     (or-cases _ _ (λ t. Met.partner (ltb-true _ _ t))
-    (or-cases _ _ (λ t. Met.number (ltb-true _ _ t)) (λ t. Met.received (ltb-true _ _ t)))))))))
+    (or-cases _ _ (λ t. Met.number (ltb-true _ _ t))
+    (or-cases _ _ (λ t. Met.received (ltb-true _ _ t)) (λ t. Met.presence (ltb-true _ _ t))))))))))
 
 above-not : {a b : ℕ} → a < b → b ≤ a → ⊥
 above-not h k = omega arith
@@ -52,6 +53,7 @@ met-fails e h (Met.loaded k) = above-not k (good e h .loaded)
 met-fails e h (Met.partner k) = above-not k (good e h .partner)
 met-fails e h (Met.number k) = above-not k (good e h .number)
 met-fails e h (Met.received k) = above-not k (good e h .got)
+met-fails e h (Met.presence k) = above-not k (good e h .presence)
 
 pub met : (e : End) → Decides (bad e) (Met e)
 met e = record { holds = met-holds e; fails = met-fails e }

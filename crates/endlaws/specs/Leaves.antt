@@ -1,5 +1,5 @@
 -- What each call leaves as it was: e is the end before the call, f the end after it.
---   SendLeaves e f        send leaves the receive side and the counts
+--   SendLeaves e f        send leaves the receive side, the counts and presence
 --   TakeLeaves e f        take leaves the send side
 --   ReadLeaves r e f      reading the register r leaves all but Received and full, which only 3.2308 and 3.2317 clear
 --   WriteLeaves r e f     writing to the register r leaves all but the transmit registers: of these 3.2308 leaves the
@@ -16,6 +16,7 @@ pub record SendLeaves (e f : End) : Type 0 where
   pub heard : f .heard ≡ e .heard
   pub inbox : f .inbox ≡ e .inbox
   pub counts : f .counts ≡ e .counts
+  pub presence : f .presence ≡ e .presence
 
 pub record TakeLeaves (e f : End) : Type 0 where
   pub sender : f .sender ≡ e .sender
@@ -39,6 +40,7 @@ pub record ReadLeaves (r : ℕ) (e f : End) : Type 0 where
   pub number-in : f .inbox .number ≡ e .inbox .number
   pub bytes-in : f .inbox .bytes ≡ e .inbox .bytes
   pub counts : f .counts ≡ e .counts
+  pub presence : f .presence ≡ e .presence
 
 pub record WriteLeaves (r : ℕ) (e f : End) : Type 0 where
   pub sender : f .sender ≡ e .sender
@@ -56,6 +58,7 @@ pub record WriteLeaves (r : ℕ) (e f : End) : Type 0 where
   pub pending-number : e .outbox .pending ≡ true → f .outbox .number ≡ e .outbox .number
   pub pending-bytes : e .outbox .pending ≡ true → f .outbox .bytes ≡ e .outbox .bytes
   pub counts : f .counts ≡ e .counts
+  pub presence : f .presence ≡ e .presence
 
 pub record HealthLeaves (e f : End) : Type 0 where
   pub outbox : f .outbox ≡ e .outbox
@@ -68,3 +71,4 @@ pub record HealthLeaves (e f : End) : Type 0 where
   pub ready : f .sender .ready ≡ e .sender .ready
   pub loaded : f .sender .loaded ≡ e .sender .loaded
   pub counts : f .counts ≡ e .counts
+  pub presence : f .presence ≡ e .presence

@@ -1,5 +1,6 @@
 -- The answer table's rows 1, 2, 3, 10 (request #101) and 4, in plain terms. (Row 5 is 1023 < s, row 6 is 3 < h.)
---   Met e            row 1: position or count above 11, a stored symbol above 511, a health above 3, a number above 15
+--   Met e            row 1: position or count above 11, a stored symbol above 511, a health above 3, a number above 15,
+--                    and with request #107 a presence above 768
 --   Outside r        row 2: not one of 3.2308 to 3.2317
 --   Received r       row 3: one of 3.2313 to 3.2317
 --   ReadOnlyBit i    bit i of 3.2308 cannot be written: it is one of 14:12, 7:3 and 1:0
@@ -23,6 +24,7 @@ pub data Met (e : End) : Type 0 where
   partner : 3 < e .heard .health → Met e
   number : 15 < e .outbox .number → Met e
   received : 15 < e .inbox .number → Met e
+  presence : 768 < e .presence → Met e
 
 abbrev pub Outside : ℕ → Type 0
 Outside r = (r < 2308) ⊎ (2317 < r)

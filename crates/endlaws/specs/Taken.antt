@@ -27,7 +27,7 @@ unfoldable pub takes : List Call → List ℕ
 takes [] = []
 takes (c ∷ cs) = takenBy c ++ takes cs
 
-abbrev pub lastOf : ℕ → List ℕ → List ℕ
+abbrev pub lastOf : {A : Type 0} → ℕ → List A → List A
 lastOf n l = drop (length l - n) l
 
 unfoldable pub lastTwelve : List ℕ → List ℕ

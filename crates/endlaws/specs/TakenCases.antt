@@ -1,24 +1,28 @@
--- Closed cases that guard the definitions of Taken.antt, Reasons.antt and Counted.antt: P11 of document 01, P1's frame
--- taken after reset, collections that end in each way, and how they are counted.
+-- Closed cases that guard the definitions of Taken.antt, Reasons.antt, Counted.antt and Presence.antt: P11 of document
+-- 01, P1's frame taken after reset, collections that end in each way, how they are counted, and presence at its end.
 -- Assumes nothing.
 use Prim.Native.Nat.{ℕ}
-use mathlib.Core.Bool.{xor}
+use mathlib.Core.Bool.{true, false, xor}
 use mathlib.Core.List.{List, [], _∷_, _++_, map}
+use mathlib.Core.Logic.{inl, inr}
 use mathlib.Core.Path.{_≡_, refl}
+use lib.Dec.{ltb}
 use lib.ListN.{replicate}
 use Rattle.frame.specs.Bits.{odd, bits, number, oddOnes}
 use Rattle.frame.specs.Crc.{plus, times, shift, run, crc}
-use Rattle.frame.specs.Frame.{generator, stream, crcOf, even, crcRight}
+use Rattle.frame.specs.Frame.{generator, stream, crcOf, even, evenSymbol, oddSymbol, symbols, build, crcRight}
 use Rattle.frame.specs.declared.reason.Reason.{Reason}
 use Rattle.frame.specs.declared.reason.Reason.the-variants.{Nothing, Accepted, Crc, Marked, Parity}
 use Rattle.frame.specs.Reason.{reasonNumber, placeOf}
 use Rattle.end.specs.declared.End.{End}
 use Rattle.end.specs.Counting.{noCounts, tallied, listed}
 use Rattle.end.specs.Good.{above, bad, resetOf}
+use Rattle.end.specs.Sending.{acked, frameStart, sendOf}
 use Rattle.end.specs.Taking.{taken, takeOf}
 use Rattle.end.specs.Registers.{readOf}
 use Rattle.endlaws.specs.Calls.{Call, calls, reached}
 use Rattle.endlaws.specs.Counted.{howMany, grown}
+use Rattle.endlaws.specs.Presence.{lapses, Steady}
 use Rattle.endlaws.specs.Reasons.{reasons}
 use Rattle.endlaws.specs.Taken.{takes, lastTwelve, acceptances, atLast}
 
@@ -81,6 +85,7 @@ nearly = record {
   heard = resetOf .heard;
   inbox = resetOf .inbox;
   counts = record { accepted = 65535; crc = 65534; marked = 65533; early = 65534 };
+  presence = 0;
 }
 
 stopped : listed (calls (breaks ++ breaks ++ twelfths ++ wrong) nearly .counts) ≡ 65535 ∷ 65535 ∷ 65535 ∷ 65535 ∷ []
@@ -93,3 +98,32 @@ by-kind : grown noCounts (Accepted ∷ Crc ∷ Crc ∷ Nothing ∷ Parity 3 ∷ 
     ≡ record { accepted = 1; crc = 3; marked = 1; early = 2 }
 unfolding howMany
 by-kind = refl
+
+-- presence is whole after P1's frame; a mark, an odd symbol and an even one are each one symbol less, a refused one is
+-- none, nor are a read and a send
+older : List Call
+older = Call.take 0x200 ∷ Call.read 2308 ∷ Call.take 0x100 ∷ Call.take 0x400 ∷ Call.send ∷ Call.take 0x000 ∷ []
+
+begun : reached p1 .presence ≡ 768
+unfolding p1 reached calls tallied odd bits oddOnes number plus times shift run crc generator stream crcOf even crcRight
+    above bad taken takeOf readOf xor
+begun = refl
+
+after-three : reached (p1 ++ older) .presence ≡ 765
+unfolding p1 older reached calls tallied odd bits oddOnes number plus times shift run crc generator stream crcOf even
+    crcRight above bad taken takeOf readOf sendOf acked frameStart build symbols evenSymbol oddSymbol xor
+after-three = refl
+
+-- 767 later symbols and 768
+last-one : ltb 0 (lapses (true ∷ replicate 767 false) 5) ≡ true
+unfolding lapses
+last-one = refl
+
+none-left : ltb 0 (lapses (true ∷ replicate 768 false) 5) ≡ false
+unfolding lapses
+none-left = refl
+
+-- one same symbol, with marks of two kinds between
+steady : Steady 0x100 (takes (map Call.take (0x100 ∷ 0x300 ∷ 0x3FF ∷ 0x100 ∷ [])))
+unfolding takes
+steady = (inl refl, (inr refl, (inr refl, (inl refl, tt))))

@@ -37,6 +37,7 @@ endAs e k o i = record {
   heard = e .heard;
   inbox = i;
   counts = e .counts;
+  presence = e .presence;
 }
 
 abbrev pub hostedAs : Side → End → Host → List Message → List Message → Side

@@ -13,6 +13,7 @@ use lib.ListN.{length, length-append}
 use Rattle.frame.specs.Frame.{build}
 use Rattle.end.specs.Good.{bad}
 use Rattle.end.specs.Counting.{tallied}
+use Rattle.end.specs.Presence.{leftAfter}
 use Rattle.end.specs.Taking.{settled, placed, saidBy, accepts, reasonBy, enters, entered, pickHeard, collected, taken}
 use Rattle.endlaws.specs.Shape.{Shaped}
 use Rattle.endlaws.proofs.Done.{take-good}
@@ -52,6 +53,7 @@ tookBy t n s b = record {
     heard = pickHeard t (saidBy (placed s (b .end .collector))) (b .end .heard);
     inbox = entered n (placed s (b .end .collector)) (settled (b .end));
     counts = tallied (reasonBy s (b .end .collector)) (b .end .counts);
+    presence = leftAfter (accepts s (b .end .collector)) (b .end .presence);
   };
   sent = b .sent;
   host = b .host;

@@ -1,20 +1,20 @@
 -- The answer table through records, for every call and whatever the bytes are.
---   wrong-refused   what answer 11 meets, spelled out; wrong-one-refused, of version 1
+--   wrong-refused   what answer 11 meets, spelled out; wrong-before-refused, of a version of before;
+--                   wrong, wrong-before, as what is decided
 --   call-11         11 exactly when the record is wrong
 --   call-n          any other number exactly when it is not, and the call on its end gives that number
 --   call-never-1    1 is never given: an end that it would meet is answered 11
 --   call-refused    any number but 0: the value is 0 and every byte is as it was
 --   reset-11, reset-0, reset-refused   the same of reset, which asks only for an area of the right size
 -- Assumes nothing.
-use Prim.Native.Nat.{ℕ, suc, _+_, _<_, _≤_}
+use Prim.Native.Nat.{ℕ, suc, _<_, _≤_}
 use mathlib.Core.Bool.{Bool, true, false, cond, true≢false, false≢true}
 use mathlib.Core.List.{List, [], _∷_}
 use mathlib.Core.Logic.{_↔_}
 use mathlib.Core.Path.{_≡_, refl, sym, ap, _∙_}
 use native.Mathlib.Omega.{arith}
 use lib.Dec.{eqb, ltb}
-use lib.ListN.{length, getD, drop}
-use lib.Seq.{getD-drop}
+use lib.ListN.{length, getD, drop, length-drop}
 use borrow.Author.Tests.{eqb-true, eqb-false, ne-eqb, ltb-true, not-true}
 use Rattle.answer.specs.Number.{numberOf}
 use Rattle.end.specs.declared.End.{End}
@@ -32,11 +32,14 @@ use Rattle.endlaws.proofs.Answers.{bad-met, send-1, take-1, read-1, write-1, he
 use Rattle.endlaws.proofs.Answers.{send-refused, take-refused, read-refused, write-refused, health-refused}
 use Rattle.endlaws.proofs.Base.{or-cases}
 use Rattle.endlaws.proofs.Decide.{Decides, decides-iff, hit, skip, pass, never}
-use Rattle.record.specs.Record.{size, version, sizeOne, versionOne, bodyOne, bodyOf, recordOf, endOf, largest}
-use Rattle.record.specs.Record.{exceeds, refusedBy, refused, refusedOne, WrongBy, Wrong, WrongOne}
+use Rattle.record.specs.Record.{size, version, sizeTwo, at, frontOf, backOf, recordOf, endOf, presenceOf}
+use Rattle.record.specs.Record.{boolAt, without, limits, exceeds, wrongHead, refusedBy, refused}
+use Rattle.record.specs.Record.{refusedBefore}
+use Rattle.record.specs.Record.{WrongBy, Wrong, WrongBefore}
 use Rattle.record.specs.Calls.{Result, Called, through, resetting, badRecord, stored}
 use Rattle.record.specs.Runs.{result, called}
-use Rattle.record.proofs.Accepted.{fits, most, accepted-back, accepted-good}
+use Rattle.record.proofs.Accepted.{within-at, fits, accepted-back, accepted-good}
+use Rattle.record.proofs.Before.{without-length}
 
 -- the number of a result
 abbrev number : Result → ℕ
@@ -120,41 +123,54 @@ exceeds-some (x ∷ l) [] f h = absurd (false≢true h)
 exceeds-some (x ∷ l) (y ∷ m) f h =
     or-cases (ltb y x) (exceeds l m) (λ t. f 0 (ltb-true y x t)) (exceeds-some l m (λ i k. f (suc i) k)) h
 
-module _ (n v : ℕ) (m : List ℕ) (long : 3 + length m ≡ n) where
-  wrong-holds : (r : List ℕ) → refusedBy n v m r ≡ true → WrongBy n v m r
-  unfolding refusedBy
-  wrong-holds r =
+module _ (n v k x : ℕ) (b r : List ℕ) (short : length r ≡ n → length b ≤ length limits) where
+  wrong-holds : refusedBy n v k x b r ≡ true → WrongBy n v k x b r
+  unfolding refusedBy wrongHead
+  wrong-holds =
       or-cases _ _
+      (or-cases _ _
       (or-cases _ _ (λ t. WrongBy.area (eqb-false _ _ (not-true _ t)))
       (λ t. WrongBy.said (eqb-false _ _ (not-true _ t))))
-      (or-cases _ _ (λ t. WrongBy.unknown (eqb-false _ _ (not-true _ t)))
-      (exceeds-some (drop 3 r) _ (λ i k. WrongBy.value i (rw (sym (getD-drop 3 r i 0)) k))))
+      (λ t. WrongBy.unknown (eqb-false _ _ (not-true _ t))))
+      (or-cases _ _ (λ t. WrongBy.number (ltb-true k x t)) (exceeds-some b limits (λ i l. WrongBy.value i l)))
 
-  wrong-fails : (r : List ℕ) → refusedBy n v m r ≡ false → ¬ WrongBy n v m r
-  wrong-fails r h (WrongBy.area k) = k (fits n v m r h .long)
-  wrong-fails r h (WrongBy.said k) = k (fits n v m r h .said)
-  wrong-fails r h (WrongBy.unknown k) = k (fits n v m r h .known)
-  wrong-fails r h (WrongBy.value i k) = above-not k (most n v m r long (fits n v m r h) i)
-    where
-      above-not : {a b : ℕ} → a < b → b ≤ a → ⊥
-      above-not p q = omega arith
+  above-not : {a c : ℕ} → a < c → c ≤ a → ⊥
+  above-not p q = omega arith
 
-  wrong-by : (r : List ℕ) → Decides (refusedBy n v m r) (WrongBy n v m r)
-  wrong-by r = record { holds = wrong-holds r; fails = wrong-fails r }
+  wrong-fails : refusedBy n v k x b r ≡ false → ¬ WrongBy n v k x b r
+  wrong-fails h (WrongBy.area l) = l (fits n v k x b r h .long)
+  wrong-fails h (WrongBy.said l) = l (fits n v k x b r h .said)
+  wrong-fails h (WrongBy.unknown l) = l (fits n v k x b r h .known)
+  wrong-fails h (WrongBy.number l) = above-not l (fits n v k x b r h .number)
+  wrong-fails h (WrongBy.value i l) =
+      let f = fits n v k x b r h in
+      above-not l (within-at b limits i (short (f .long)) (f .within))
+
+  wrong-by : Decides (refusedBy n v k x b r) (WrongBy n v k x b r)
+  wrong-by = record { holds = wrong-holds; fails = wrong-fails }
+
+limits-length : length limits ≡ 98
+unfolding limits frontOf backOf
+limits-length = refl
 
 pub wrong : (r : List ℕ) → Decides (refused r) (Wrong r)
-unfolding bodyOne bodyOf
-wrong = wrong-by size version (bodyOf largest) refl
+unfolding refused
+wrong r =
+    wrong-by size version 768 (presenceOf r) (drop 3 r) r
+    (λ h. rw (length-drop 3 r, h, limits-length) (omega arith))
 
-pub wrong-one : (r : List ℕ) → Decides (refusedOne r) (WrongOne r)
-unfolding bodyOne
-wrong-one = wrong-by sizeOne versionOne (bodyOne largest) refl
+pub wrong-before : (n v : ℕ) → 72 ≤ n → n ≤ sizeTwo → (r : List ℕ) → Decides (refusedBefore n v r) (WrongBefore n v r)
+unfolding refusedBefore
+wrong-before n v l u r =
+    wrong-by n v 1 (at r boolAt) (without r) r
+    (λ h. rw (without-length r (rw h l), h, limits-length) (omega arith))
 
 pub wrong-refused : (r : List ℕ) → (refused r ≡ true) ↔ Wrong r
 wrong-refused r = decides-iff (wrong r)
 
-pub wrong-one-refused : (r : List ℕ) → (refusedOne r ≡ true) ↔ WrongOne r
-wrong-one-refused r = decides-iff (wrong-one r)
+pub wrong-before-refused : (n v : ℕ) → 72 ≤ n → n ≤ sizeTwo → (r : List ℕ)
+    → (refusedBefore n v r ≡ true) ↔ WrongBefore n v r
+wrong-before-refused n v l u r = decides-iff (wrong-before n v l u r)
 
 not-refused : (r : List ℕ) → ¬ Wrong r → refused r ≡ false
 not-refused r h = go (refused r) (λ t. h (wrong r .holds t))

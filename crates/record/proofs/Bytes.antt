@@ -2,6 +2,7 @@
 --   append-step      storing an element behind a prefix makes the prefix longer by it
 --   copy-step        copying a list behind a prefix, an element at a time
 --   exceeds-step     the search for a byte above its limit, an element at a time; none-left, at its end
+--   exceeds-parts, exceeds-cut   the same of a list in two parts, and with more limits than bytes
 --   twos-step        two bytes stored for one number more
 --   pairs-step       one number stored for two bytes more
 -- Assumes nothing.
@@ -14,7 +15,7 @@ use native.Mathlib.Numerals.{add-one}
 use native.Mathlib.Omega.{arith}
 use lib.Dec.{ltb}
 use lib.ListN.{length, getD, set, take, drop, length-set}
-use Rattle.record.specs.Record.{exceeds, two, twos, pairs}
+use Rattle.record.specs.Record.{exceeds, twos, pairs}
 
 set-prefix : (l : List ℕ) (i v : ℕ) → i < length l → take (suc i) (set l i v) ≡ take i l ++ (v ∷ [])
 set-prefix [] i v h = absurd (omega arith)
@@ -64,6 +65,25 @@ none-left false (x ∷ l) [] (suc i) h = nothing (drop i l)
     nothing [] = refl
     nothing (y ∷ t) = refl
 none-left false (x ∷ l) (y ∷ m) (suc i) h = none-left false l m i (le-of-suc-le-suc h)
+
+-- of a list in two parts, each by its own limits
+pub exceeds-parts : (a b m : List ℕ)
+    → (exceeds a (take (length a) m) || exceeds b (drop (length a) m)) ≡ exceeds (a ++ b) m
+unfolding exceeds
+exceeds-parts [] b m = refl
+exceeds-parts (x ∷ a) [] [] = refl
+exceeds-parts (x ∷ a) (y ∷ b) [] = refl
+exceeds-parts (x ∷ a) b (y ∷ m) =
+    or-assoc (ltb y x) (exceeds a (take (length a) m)) (exceeds b (drop (length a) m))
+    ∙ ap (λ (t : Bool). ltb y x || t) (exceeds-parts a b m)
+
+-- limits beyond the list make no difference
+pub exceeds-cut : (l m : List ℕ) (k : ℕ) → length l ≤ k → exceeds l (take k m) ≡ exceeds l m
+unfolding exceeds
+exceeds-cut [] m k h = refl
+exceeds-cut (x ∷ l) m zero h = absurd (omega arith)
+exceeds-cut (x ∷ l) [] (suc k) h = refl
+exceeds-cut (x ∷ l) (y ∷ m) (suc k) h = ap (λ (t : Bool). ltb y x || t) (exceeds-cut l m k (le-of-suc-le-suc h))
 
 -- Numbers of two bytes
 

@@ -1,8 +1,9 @@
 pub mod Bytes
 pub mod Parts
-pub mod Gave
 pub mod Written
 pub mod Accepted
+pub mod Before
+pub mod Gave
 pub mod Answers
 pub mod Through
 pub mod Versions

@@ -11,11 +11,12 @@
 --   toldBy s r        that, with the answer of taking s
 --   filled e a        the area a filled with the record of e, where it has the right size
 --   resetting a       reset, which asks only for an area of the right size
---   upgrading r a     request #106: the area a filled with the record of the end of r, a record of version 1
+--   upgrading r a     requests #106 and #107: the area a filled with the record of the end of r, a record of version 1
+--                     or 2; neither r, r is no good one
 --   countsBy r        the counts of the record r; all 0 where it is refused
 -- Assumes nothing.
 use Prim.Native.Nat.{ℕ}
-use mathlib.Core.Bool.{cond}
+use mathlib.Core.Bool.{Bool, cond, _&&_}
 use mathlib.Core.List.{List}
 use lib.Dec.{eqb}
 use lib.ListN.{length}
@@ -33,7 +34,8 @@ use Rattle.end.specs.Registers.{readOf, writeOf, healthOf}
 use Rattle.record.specs.declared.Reply.{Reply}
 use Rattle.record.specs.declared.Told.{Told}
 use Rattle.record.specs.declared.Counted.{Counted}
-use Rattle.record.specs.Record.{size, flag, recordOf, endOf, endOne, refused, refusedOne}
+use Rattle.record.specs.Record.{size, sizeOne, versionOne, sizeTwo, versionTwo, flag, recordOf, endOf, endBefore}
+use Rattle.record.specs.Record.{refused, refusedBefore}
 
 pub record Result : Type 0 where
   pub answer : Answer
@@ -89,8 +91,11 @@ filled e a = cond (eqb (length a) size) (stored (record { answer = Done; value =
 unfoldable pub resetting : List ℕ → Called
 resetting a = filled resetOf a
 
+abbrev pub neither : List ℕ → Bool
+neither r = refusedBefore sizeOne versionOne r && refusedBefore sizeTwo versionTwo r
+
 unfoldable pub upgrading : List ℕ → List ℕ → Called
-upgrading r a = cond (refusedOne r) (badRecord a) (filled (endOne r) a)
+upgrading r a = cond (neither r) (badRecord a) (filled (endBefore r) a)
 
 unfoldable pub countsBy : List ℕ → Counted
 countsBy r =

@@ -3,8 +3,10 @@
 --   called c r       what the call c gives on the record r
 --   replies cs r     what the calls cs reply, the first one first, on the record r; bytes cs r, its bytes after them
 --   told cs e        what the calls cs reply on the end e
+--   asks c           the call c is present, which alone looks at presence
 -- Assumes nothing.
 use Prim.Native.Nat.{ℕ}
+use mathlib.Core.Bool.{Bool, true, false}
 use mathlib.Core.List.{List, [], _∷_}
 use Rattle.end.specs.declared.End.{End}
 use Rattle.endlaws.specs.Calls.{Call, send, take, read, write, health, present}
@@ -22,6 +24,14 @@ result present = presence
 
 abbrev pub called : Call → List ℕ → Called
 called c r = through (result c) r
+
+abbrev pub asks : Call → Bool
+asks send = false
+asks (take s) = false
+asks (read r) = false
+asks (write r v h) = false
+asks (health h) = false
+asks present = true
 
 unfoldable pub replies : List Call → List ℕ → List Reply
 replies [] r = []

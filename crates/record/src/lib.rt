@@ -1,6 +1,6 @@
 // Request #104: an end that the C side keeps, as a record in bytes that it lends to each call. A call looks the record
 // over, reads its end, makes the call of crate `end` and writes the next end back. docs/RECORD.md has the offsets.
-// Request #106: the counts, and the records of before, which have none.
+// Requests #106 and #107: the counts, and the records of before, which an upgrade alone reads.
 mod limits;
 mod reading;
 mod refusing;
@@ -12,10 +12,10 @@ use end::End;
 use end::Next;
 use frame::reason::Reason;
 use reading::end_of;
-use reading::end_of_one;
 use refusing::refused;
-use refusing::refused_one;
+use refusing::refused_before;
 use writing::put_end;
+use writing::put_newer;
 ghost use mathlib.Core.Path.{_≡_};
 ghost use lib.ListN.{length};
 ghost use Rattle.record.specs.Record.{size};
@@ -24,14 +24,18 @@ ghost use Rattle.record.specs.Calls.{stored};
 ghost use Rattle.record.specs.Calls.{sending, taking, reading, writing, settingHealth, presence};
 
 // How long a record is, and its version.
-pub const SIZE: usize = 100;
+pub const SIZE: usize = 101;
 
-pub const VERSION: u8 = 2;
+pub const VERSION: u8 = 3;
 
-// The same of the records of before, which an upgrade alone reads.
+// The same of the records of before.
 const SIZE_ONE: usize = 92;
 
 const VERSION_ONE: u8 = 1;
+
+const SIZE_TWO: usize = 100;
+
+const VERSION_TWO: u8 = 2;
 
 // What a call gives: its answer, and the symbol of a send, the value of a read, 1 for present; else 0.
 pub struct Reply {
@@ -60,17 +64,25 @@ pub fn reset(area: &mut [u8]) -> Reply
     fill(area, fresh)
 }
 
-// Fills an area of the right size with the record of the end that an old one, of version 1, is the record of. The old
-// one is only read.
+// Fills an area of the right size with the record of the end that an old one, of version 1 or 2, is the record of. The
+// old one is only read.
 pub fn upgrade(old: &[u8], area: &mut [u8]) -> Reply
     ensures { λ r. ⌜ r ≡ upgrading (now (old .entry)) (now (area .entry)) .reply ⌝ }
     ensures { λ _. ⌜ now (area .exit) ≡ upgrading (now (old .entry)) (now (area .entry)) .bytes ⌝ }
 {
-    if refused_one(old) {
+    let not_one = refused_before(SIZE_ONE, VERSION_ONE, old);
+    let not_two = refused_before(SIZE_TWO, VERSION_TWO, old);
+    if not_one & not_two {
         return bad_record();
     }
-    let end = end_of_one(old);
-    fill(area, end)
+    if area.len() != SIZE {
+        return bad_record();
+    }
+    put_newer(area, old);
+    Reply {
+        answer: Answer::Done,
+        value: 0,
+    }
 }
 
 // The symbol of this slot.

@@ -1,11 +1,11 @@
 // The limits that answer 11 looks at.
 ghost use mathlib.Core.Path.{_≡_};
-ghost use Rattle.record.specs.Record.{bodyOf, largest};
+ghost use Rattle.record.specs.Record.{limits};
 
-// The largest value of each byte behind the head, which is the body of an end with each field at its largest. It is
-// spelled out so that no call has to work it out.
-pub fn limits() -> [u8; 97]
-    ensures { λ r. ⌜ r ≡ bodyOf largest ⌝ }
+// The largest value of each byte behind the head: the bytes of an end with each field at its largest. It is spelled out
+// so that no call has to work it out.
+pub fn limits() -> [u8; 98]
+    ensures { λ r. ⌜ r ≡ limits ⌝ }
 {
     [
         // tx: twelve symbols of at most 511, in two bytes each
@@ -79,7 +79,6 @@ pub fn limits() -> [u8; 97]
         1,
         255,
         11, // count
-        1, // present
         3, // partner_health
         1, // ping_got
         1, // partner_ping
@@ -109,6 +108,9 @@ pub fn limits() -> [u8; 97]
         255,
         255,
         255,
+        255,
+        // presence_left: that it is at most 768 no byte alone says
+        3,
         255,
     ]
 }

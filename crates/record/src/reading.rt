@@ -9,42 +9,21 @@ use end::Sender;
 ghost use mathlib.Core.Path.{_≡_};
 ghost use Prim.Native.Nat.{_+_, _≤_, _<_};
 ghost use lib.ListN.{length};
-ghost use Rattle.record.specs.Record.{size, sizeOne, endOf, endOne, endWith, twoAt, pairs};
-ghost use Rattle.record.specs.Record.{senderOf, outboxOf, collectorOf, heardOf, inboxOf, countsOf};
+ghost use Rattle.record.specs.Record.{size, endOf, twoAt, pairs};
+ghost use Rattle.record.specs.Record.{senderOf, outboxOf, collectorOf, heardOf, inboxOf, countsOf, presenceOf};
 
-// The end of a record as it is written now.
+// The end of a record, part by part.
 pub fn end_of(area: &[u8]) -> End
     requires { ⌜ length (now area) ≡ size ⌝ }
     ensures { λ r. ⌜ r ≡ endOf (now (area .entry)) ⌝ }
-{
-    let counts = counts_of(area);
-    end_with(counts, area)
-}
-
-// The end of a record of version 1: all counts are 0.
-pub fn end_of_one(area: &[u8]) -> End
-    requires { ⌜ length (now area) ≡ sizeOne ⌝ }
-    ensures { λ r. ⌜ r ≡ endOne (now (area .entry)) ⌝ }
-{
-    let counts = Counts {
-        accepted: 0,
-        crc: 0,
-        marked: 0,
-        early: 0,
-    };
-    end_with(counts, area)
-}
-
-// Part by part. All but the counts stand where they stood in version 1.
-fn end_with(counts: Counts, area: &[u8]) -> End
-    requires { ⌜ sizeOne ≤ length (now area) ⌝ }
-    ensures { λ r. ⌜ r ≡ endWith counts (now (area .entry)) ⌝ }
 {
     let sender = sender_of(area);
     let outbox = outbox_of(area);
     let collector = collector_of(area);
     let heard = heard_of(area);
     let inbox = inbox_of(area);
+    let counts = counts_of(area);
+    let presence = presence_of(area);
     End {
         sender,
         outbox,
@@ -52,11 +31,12 @@ fn end_with(counts: Counts, area: &[u8]) -> End
         heard,
         inbox,
         counts,
+        presence,
     }
 }
 
 fn sender_of(area: &[u8]) -> Sender
-    requires { ⌜ sizeOne ≤ length (now area) ⌝ }
+    requires { ⌜ length (now area) ≡ size ⌝ }
     ensures { λ r. ⌜ r ≡ senderOf (now (area .entry)) ⌝ }
 {
     let symbols = symbols_of(&area[3..27]);
@@ -71,7 +51,7 @@ fn sender_of(area: &[u8]) -> Sender
 }
 
 fn outbox_of(area: &[u8]) -> Outbox
-    requires { ⌜ sizeOne ≤ length (now area) ⌝ }
+    requires { ⌜ length (now area) ≡ size ⌝ }
     ensures { λ r. ⌜ r ≡ outboxOf (now (area .entry)) ⌝ }
 {
     let bytes = eight_of(&area[38..46]);
@@ -87,7 +67,7 @@ fn outbox_of(area: &[u8]) -> Outbox
 }
 
 fn collector_of(area: &[u8]) -> Collector
-    requires { ⌜ sizeOne ≤ length (now area) ⌝ }
+    requires { ⌜ length (now area) ≡ size ⌝ }
     ensures { λ r. ⌜ r ≡ collectorOf (now (area .entry)) ⌝ }
 {
     let symbols = symbols_of(&area[46..70]);
@@ -98,32 +78,31 @@ fn collector_of(area: &[u8]) -> Collector
 }
 
 fn heard_of(area: &[u8]) -> Heard
-    requires { ⌜ sizeOne ≤ length (now area) ⌝ }
+    requires { ⌜ length (now area) ≡ size ⌝ }
     ensures { λ r. ⌜ r ≡ heardOf (now (area .entry)) ⌝ }
 {
     Heard {
-        present: area[71] == 1,
-        health: area[72],
-        got: area[73] == 1,
-        ping: area[74] == 1,
-        valid: area[75] == 1,
-        toggle: area[76] == 1,
-        ack: area[77] == 1,
-        togack: area[78] == 1,
+        health: area[71],
+        got: area[72] == 1,
+        ping: area[73] == 1,
+        valid: area[74] == 1,
+        toggle: area[75] == 1,
+        ack: area[76] == 1,
+        togack: area[77] == 1,
     }
 }
 
 fn inbox_of(area: &[u8]) -> Inbox
-    requires { ⌜ sizeOne ≤ length (now area) ⌝ }
+    requires { ⌜ length (now area) ≡ size ⌝ }
     ensures { λ r. ⌜ r ≡ inboxOf (now (area .entry)) ⌝ }
 {
-    let bytes = eight_of(&area[84..92]);
+    let bytes = eight_of(&area[83..91]);
     Inbox {
-        expected: area[79] == 1,
-        acknowledge: area[80] == 1,
-        full: area[81] == 1,
-        toggle: area[82] == 1,
-        number: area[83],
+        expected: area[78] == 1,
+        acknowledge: area[79] == 1,
+        full: area[80] == 1,
+        toggle: area[81] == 1,
+        number: area[82],
         bytes,
     }
 }
@@ -133,11 +112,19 @@ fn counts_of(area: &[u8]) -> Counts
     ensures { λ r. ⌜ r ≡ countsOf (now (area .entry)) ⌝ }
 {
     Counts {
-        accepted: two_at(area, 92),
-        crc: two_at(area, 94),
-        marked: two_at(area, 96),
-        early: two_at(area, 98),
+        accepted: two_at(area, 91),
+        crc: two_at(area, 93),
+        marked: two_at(area, 95),
+        early: two_at(area, 97),
     }
+}
+
+// What is left of presence.
+pub fn presence_of(area: &[u8]) -> u16
+    requires { ⌜ length (now area) ≡ size ⌝ }
+    ensures { λ r. ⌜ r ≡ presenceOf (now (area .entry)) ⌝ }
+{
+    two_at(area, 99)
 }
 
 // A number of two bytes, the high byte first.

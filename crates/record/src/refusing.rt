@@ -1,34 +1,46 @@
 // Answer 11: a wrong length, an unknown version or a value out of range.
 use crate::SIZE;
-use crate::SIZE_ONE;
 use crate::VERSION;
-use crate::VERSION_ONE;
 use crate::limits::limits;
+use crate::reading::presence_of;
 ghost use mathlib.Core.Path.{_≡_};
-ghost use Prim.Native.Nat.{_+_, _≤_};
+ghost use Prim.Native.Nat.{_≤_};
 ghost use lib.ListN.{length};
-ghost use Rattle.record.specs.Record.{exceeds, refusedBy, refused, refusedOne};
+ghost use Rattle.record.specs.Record.{sizeOne, sizeTwo, wrongHead, exceeds, refused, refusedBefore};
 
-// A record that is not of this size and version, or has a value out of range.
+// A record that is not of this size and version, or has a value out of range. Of presence no byte alone says so.
 pub fn refused(area: &[u8]) -> bool
     ensures { λ r. ⌜ r ≡ refused (now (area .entry)) ⌝ }
 {
+    if wrong_head(SIZE, VERSION, area) {
+        return true;
+    }
     let limits = limits();
-    refused_by(SIZE, VERSION, &limits, area)
+    let left = presence_of(area);
+    let above = exceeds(&area[3..], &limits);
+    (left > end::LASTING) | above
 }
 
-// The same of version 1, which ends where the counts begin.
-pub fn refused_one(area: &[u8]) -> bool
-    ensures { λ r. ⌜ r ≡ refusedOne (now (area .entry)) ⌝ }
+// The same of a version of before, which has a bool behind the collection and ends with or before the counts.
+pub fn refused_before(size: usize, version: u8, area: &[u8]) -> bool
+    requires { ⌜ sizeOne ≤ size ⌝ }
+    requires { ⌜ size ≤ sizeTwo ⌝ }
+    ensures { λ r. ⌜ r ≡ refusedBefore size version (now (area .entry)) ⌝ }
 {
+    if wrong_head(size, version, area) {
+        return true;
+    }
     let limits = limits();
-    refused_by(SIZE_ONE, VERSION_ONE, &limits[0..89], area)
+    let flag = area[71];
+    let front = exceeds(&area[3..71], &limits[0..68]);
+    let back = exceeds(&area[72..], &limits[68..size - 4]);
+    (flag > 1) | (front | back)
 }
 
-// The same for any size and version; limits has the largest value of each byte behind the head.
-fn refused_by(size: usize, version: u8, limits: &[u8], area: &[u8]) -> bool
-    requires { ⌜ size ≡ 3 + length (now limits) ⌝ }
-    ensures { λ r. ⌜ r ≡ refusedBy size version (now (limits .entry)) (now (area .entry)) ⌝ }
+// The length, as it is and as it is said, and the version.
+fn wrong_head(size: usize, version: u8, area: &[u8]) -> bool
+    requires { ⌜ sizeOne ≤ size ⌝ }
+    ensures { λ r. ⌜ r ≡ wrongHead size version (now (area .entry)) ⌝ }
 {
     if area.len() != size {
         return true;
@@ -36,10 +48,7 @@ fn refused_by(size: usize, version: u8, limits: &[u8], area: &[u8]) -> bool
     if 256 * wide(area[0]) + wide(area[1]) != size {
         return true;
     }
-    if area[2] != version {
-        return true;
-    }
-    exceeds(&area[3..], limits)
+    area[2] != version
 }
 
 // A byte as a number of more bits.

@@ -14,7 +14,7 @@ ghost use mathlib.Core.List.{_++_};
 ghost use Prim.Native.Nat.{_+_, _/_, _%_, _≤_};
 ghost use lib.ListN.{length, take};
 ghost use Rattle.end.specs.Counting.{listed};
-ghost use Rattle.record.specs.Record.{size, version, headOf, recordOf, twos};
+ghost use Rattle.record.specs.Record.{size, sizeOne, sizeTwo, version, headOf, recordOf, newer, two, twos};
 ghost use Rattle.record.specs.Record.{senderBytes, outboxBytes, collectorBytes, heardBytes, inboxBytes};
 
 // The whole record.
@@ -28,6 +28,7 @@ pub fn put_end(area: &mut [u8], end: End)
     let heard = end.heard;
     let inbox = end.inbox;
     let counts = end.counts;
+    let presence = end.presence;
     put_head(area);
     put_sender(area, sender);
     put_outbox(area, outbox);
@@ -35,6 +36,22 @@ pub fn put_end(area: &mut [u8], end: End)
     put_heard(area, heard);
     put_inbox(area, inbox);
     put_counts(area, counts);
+    put_presence(area, presence);
+}
+
+// A record of before as one of now: its bytes behind the head, without the bool at 71, and zeros for what came later.
+pub fn put_newer(area: &mut [u8], old: &[u8])
+    requires { ⌜ length (now area) ≡ size ⌝ }
+    requires { ⌜ sizeOne ≤ length (now old) ⌝ }
+    requires { ⌜ length (now old) ≤ sizeTwo ⌝ }
+    ensures { λ _. ⌜ now (area .exit) ≡ newer (now (old .entry)) ⌝ }
+{
+    let zeros = [0u8; 10];
+    let place = old.len() - 1;
+    put_head(area);
+    put(area, 3, &old[3..71]);
+    put(area, 71, &old[72..]);
+    put(area, place, &zeros[0..SIZE - place]);
 }
 
 fn put_head(area: &mut [u8])
@@ -90,10 +107,9 @@ fn put_collector(area: &mut [u8], collector: Collector)
 
 fn put_heard(area: &mut [u8], heard: Heard)
     requires { ⌜ length (now area) ≡ size ⌝ }
-    ensures { λ _. ⌜ take 79 (now (area .exit)) ≡ take 71 (now (area .entry)) ++ heardBytes heard ⌝ }
+    ensures { λ _. ⌜ take 78 (now (area .exit)) ≡ take 71 (now (area .entry)) ++ heardBytes heard ⌝ }
 {
     let all = [
-        heard.present as u8,
         heard.health,
         heard.got as u8,
         heard.ping as u8,
@@ -107,7 +123,7 @@ fn put_heard(area: &mut [u8], heard: Heard)
 
 fn put_inbox(area: &mut [u8], inbox: Inbox)
     requires { ⌜ length (now area) ≡ size ⌝ }
-    ensures { λ _. ⌜ take 92 (now (area .exit)) ≡ take 79 (now (area .entry)) ++ inboxBytes inbox ⌝ }
+    ensures { λ _. ⌜ take 91 (now (area .exit)) ≡ take 78 (now (area .entry)) ++ inboxBytes inbox ⌝ }
 {
     let first = [
         inbox.expected as u8,
@@ -117,14 +133,13 @@ fn put_inbox(area: &mut [u8], inbox: Inbox)
         inbox.number,
     ];
     let bytes = inbox.bytes;
-    put(area, 79, &first);
-    put_eight(area, 84, bytes);
+    put(area, 78, &first);
+    put_eight(area, 83, bytes);
 }
 
-// The last part: the area ends with it.
 fn put_counts(area: &mut [u8], counts: Counts)
     requires { ⌜ length (now area) ≡ size ⌝ }
-    ensures { λ _. ⌜ now (area .exit) ≡ take 92 (now (area .entry)) ++ twos (listed counts) ⌝ }
+    ensures { λ _. ⌜ take 99 (now (area .exit)) ≡ take 91 (now (area .entry)) ++ twos (listed counts) ⌝ }
 {
     let all = [
         high(counts.accepted),
@@ -136,7 +151,16 @@ fn put_counts(area: &mut [u8], counts: Counts)
         high(counts.early),
         low(counts.early),
     ];
-    put(area, 92, &all);
+    put(area, 91, &all);
+}
+
+// The last part: the area ends with it.
+fn put_presence(area: &mut [u8], presence: u16)
+    requires { ⌜ length (now area) ≡ size ⌝ }
+    ensures { λ _. ⌜ now (area .exit) ≡ take 99 (now (area .entry)) ++ two presence ⌝ }
+{
+    let all = [high(presence), low(presence)];
+    put(area, 99, &all);
 }
 
 // Twelve symbols of two bytes each, the high byte first.

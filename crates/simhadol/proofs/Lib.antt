@@ -1,3 +1,4 @@
 pub mod Cases
 pub mod Counts
+pub mod Presence
 pub mod Identical

@@ -130,7 +130,8 @@ pub extern "C" fn simhadol_counts(area: &[u8]) -> SimhadolCounted
     counted(counts)
 }
 
-// Fills an area of the right size with the record of the end that an old one, of version 1, is the record of.
+// Fills an area of the right size with the record of the end that an old one, of version 1 or 2, is the
+// record of.
 #[no_mangle]
 pub extern "C" fn simhadol_upgrade(old: &[u8], area: &mut [u8]) -> SimhadolReply
     ensures { λ r. ⌜ r ≡ numbered (upgrading (now (old .entry)) (now (area .entry)) .reply) ⌝ }

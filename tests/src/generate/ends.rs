@@ -2,7 +2,7 @@
 
 use super::frames::flip;
 use super::{Writer, SIDES};
-use crate::end::End;
+use crate::end::{End, PRESENCE};
 use crate::fields::{fields, Field};
 use crate::frame::{build, DATA, MARK, SYMBOLS};
 use crate::random::Random;
@@ -32,6 +32,7 @@ impl Writer {
             92 => self.set_all(side),
             93 | 94 => self.set_collection(side),
             95 => self.script.say(format_args!("{} reset", SIDES[side])),
+            96 => self.nearly_lapse(side),
             _ => self.script.say(format_args!("{} dump", SIDES[side])),
         }
     }
@@ -110,8 +111,8 @@ impl Writer {
         let (name, index, largest) = self.any_field();
         let any = self.random.below(usize::from(largest) + 1);
         let largest = usize::from(largest);
-        // Often near the largest, where a count stops.
-        let value = self.random.of(&[any, any, largest, largest - 1]);
+        // Often near the largest, where a count stops, or the least, where presence lapses.
+        let value = self.random.of(&[any, any, any.min(1), largest, largest - 1]);
         self.set(side, name, index, value);
     }
 
@@ -123,7 +124,7 @@ impl Writer {
                 break field;
             }
         };
-        let kind_limit = if largest == 511 { 0xFFFF } else { 0xFF };
+        let kind_limit = if largest > 255 { 0xFFFF } else { 0xFF };
         let above = usize::from(largest) + 1;
         let value = if self.random.bool() { above } else { above + self.random.below(kind_limit + 1 - above) };
         self.set(side, name, index, value);
@@ -160,6 +161,14 @@ impl Writer {
             self.script.say(format_args!("{} take {:03X}", SIDES[side], symbol));
         }
         self.script.say(format_args!("{} dump", SIDES[side]));
+    }
+
+    /// So little is left of presence that the symbols taken next decide.
+    fn nearly_lapse(&mut self, side: usize) {
+        let left = self.random.below(2 * SYMBOLS);
+        self.set(side, "presence_left", None, left);
+        self.feed_frame(side);
+        self.script.say(format_args!("{} present", SIDES[side]));
     }
 
     fn any_field(&mut self) -> (&'static str, Option<usize>, u16) {
@@ -213,6 +222,7 @@ pub fn good_limit(name: &str) -> Option<u16> {
         "position" | "count" => Some(11),
         "health" | "loaded_health" | "partner_health" => Some(3),
         "number" | "rx_number" => Some(15),
+        "presence_left" => Some(PRESENCE),
         _ => None,
     }
 }

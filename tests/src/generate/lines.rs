@@ -3,7 +3,7 @@
 use super::{Writer, SIDES};
 use crate::script::Script;
 
-const COMMANDS: [&str; 23] = [
+const COMMANDS: [&str; 24] = [
     "link 0 0",
     "link 3 40",
     "slot",
@@ -23,6 +23,7 @@ const COMMANDS: [&str; 23] = [
     "a set position B",
     "b set tx 11 1FF",
     "a set crc_count FFFE",
+    "b set presence_left 2FF",
     "check 000 100 100 100 100 100 100 100 100 100 100 100",
     "find 1 0 100 100 100 100 100 100 100 100 100 100 100",
     "crc 00 31 32 33 34 35 36 37 38 39",
@@ -171,6 +172,8 @@ impl Writer {
             "crc_count",
             "marked_count",
             "early_count",
+            "presence_left",
+            "present",
             "none",
         ]);
         let side = SIDES[self.random.below(2)];

@@ -42,9 +42,7 @@ impl Writer {
             0..=13 => self.slots(),
             14..=19 => self.offer(side),
             20..=27 => self.take_by_rule(side),
-            28..=30 if lossy => {
-                self.script.say(format_args!("mark {} {}", SIDES[side], self.random.below(31)));
-            }
+            28..=30 if lossy => self.marks(side),
             31 => self.dump_both(),
             32 => self.script.say(format_args!("{} read 2308", SIDES[side])),
             33 => self.script.say(format_args!("{} health {}", SIDES[side], self.random.below(5))),
@@ -52,6 +50,17 @@ impl Writer {
             35..=37 if !orderly => self.any_call(side),
             38 if !orderly => self.disturb(side),
             _ => self.script.say(format_args!("slot")),
+        }
+    }
+
+    /// A few, or at times so many that presence lapses, or nearly.
+    fn marks(&mut self, side: usize) {
+        let long = self.random.one_in(12);
+        let count = if long { 740 + self.random.below(50) } else { self.random.below(31) };
+        self.script.say(format_args!("mark {} {}", SIDES[side], count));
+        if long {
+            self.script.say(format_args!("slot {}", count + self.random.below(12)));
+            self.script.say(format_args!("{} present", SIDES[side]));
         }
     }
 

@@ -1,4 +1,4 @@
-//! Document 01, "Numbers on the bench", and other lines of the page, and document 02, #101, #102, #105 and #106: what
+//! Document 01, "Numbers on the bench", and other lines of the page, and document 02, #101, #102 and #105 to #107: what
 //! is expected is written from the pages.
 
 use crate::proved_prints;
@@ -6,7 +6,7 @@ use second::console;
 
 /// A name after `#`, then lines `command > what is printed`. Lines with `//` tell of the file itself.
 const CASES: &str = include_str!("cases.txt");
-const CASES_IN_THE_FILE: usize = 50;
+const CASES_IN_THE_FILE: usize = 58;
 
 /// Where answer 1 begins: each field with its largest good value and the next.
 const LIMITS: &[(&str, &str, &str)] = &[
@@ -21,6 +21,7 @@ const LIMITS: &[(&str, &str, &str)] = &[
     ("partner_health", "3", "4"),
     ("number", "F", "10"),
     ("rx_number", "F", "10"),
+    ("presence_left", "300", "301"),
 ];
 
 /// Answer 1 comes before every other, and presence says no. The count's largest value is a collection, which a marked
@@ -29,7 +30,7 @@ fn limit_case(field: &str, good: &str, bad: &str) -> String {
     let marked = if field == "count" { "0 marked 11" } else { "0" };
     format!(
         "a reset > 0
-         a set present 1 > ok
+         a set presence_left 300 > ok
          a set {field} {bad} > ok
          a send > 1 000
          a take 000 > 1

@@ -2,6 +2,7 @@
 //! more. Document 02, #106. The reasons are counted here as they are printed. And no call looks at a count.
 
 use crate::counts::dump;
+use crate::layout::{COUNTS, LENGTH};
 use crate::reason_runs::any_frame;
 use crate::records::compare_when;
 use crate::{compare, seed, tell};
@@ -11,6 +12,7 @@ use second::generate::{any_call, any_good_end};
 use second::random::Random;
 use second::record::{record_of, Call, Reply};
 use second::script::Script;
+use std::ops::Range;
 use std::time::Instant;
 
 /// In the order of the counts, and of the reasons' numbers from 1 on.
@@ -34,15 +36,14 @@ impl Tally {
         self.ever[kind] += 1;
     }
 
-    /// A reset, or an end made anew.
-    pub fn start(&mut self) {
-        self.since_reset = [0; 4];
+    pub fn start_from(&mut self, counts: [u16; 4]) {
+        self.since_reset = counts.map(usize::from);
     }
 
     /// A call from C and its reply. Where it gives the counts, they are looked at.
     pub fn hear(&mut self, call: Call, reply: Reply) {
         match (call, reply) {
-            (Call::Reset, (Answer::Done, _)) => self.start(),
+            (Call::Reset, (Answer::Done, _)) => self.start_from([0; 4]),
             (Call::TakeReason(_), (Answer::Done, [reason @ 1..=4, ..])) => self.add(usize::from(reason) - 1),
             (Call::Counts, (Answer::Done, counts)) => assert_eq!(counts, self.counts()),
             _ => {}
@@ -79,7 +80,7 @@ impl Run {
             6 => self.wrong_for_a_while(),
             7 if value % 64 == 0 => {
                 self.script.say(format_args!("a reset"));
-                self.tally.start();
+                self.tally.start_from([0; 4]);
             }
             8 if value % 16 == 0 => {
                 let kind = self.random.below(4);
@@ -125,7 +126,7 @@ fn counts_are_the_reasons_told_from_c() {
     let mut calls = Calls::default();
     let mut tally = Tally::default();
     for side in 0..2 {
-        calls.lay(side, &[0; 100]);
+        calls.lay(side, &[0; LENGTH]);
         calls.call(side, Call::Reset);
     }
     for turn in 0..6_000 {
@@ -153,33 +154,38 @@ fn counts_are_the_reasons_told_from_c() {
     tell("counts, runs from C", calls.count(), "calls", start);
 }
 
-/// What has been counted decides nothing: two records that differ in that alone give the same replies and stay the same
-/// before their counts. Calls that take nothing leave the counts.
-#[test]
-fn counts_decide_nothing() {
+/// These bytes decide nothing but what a call tells of them: two records that differ in them alone give the same
+/// replies else, and stay the same elsewhere. Calls that take nothing leave these bytes.
+pub fn decide_nothing_else(name: &str, bytes: Range<usize>, telling: Call) {
     let start = Instant::now();
     let mut random = Random::new(seed());
     let mut calls = Calls::default();
     for _ in 0..5_000 {
-        let record = record_of(&any_good_end(&mut random));
-        let other = record_of(&any_good_end(&mut random));
+        let mut record = record_of(&any_good_end(&mut random));
         calls.lay(0, &record);
-        calls.lay(1, &[&record[..92], &other[92..]].concat());
+        record[bytes.clone()].copy_from_slice(&record_of(&any_good_end(&mut random))[bytes.clone()]);
+        calls.lay(1, &record);
         for _ in 0..6 {
             let call = any_call(&mut random);
-            let before = [0, 1].map(|side| calls.area(side)[92..].to_vec());
+            let before = [0, 1].map(|side| calls.area(side)[bytes.clone()].to_vec());
             let replies = [0, 1].map(|side| calls.call(side, call));
-            let after = [0, 1].map(|side| calls.area(side)[92..].to_vec());
-            assert_eq!(calls.area(0)[..92], calls.area(1)[..92], "{}", call);
-            assert!(call == Call::Counts || replies[0] == replies[1], "{}", call);
+            let after = [0, 1].map(|side| calls.area(side)[bytes.clone()].to_vec());
+            assert_eq!(calls.area(0)[..bytes.start], calls.area(1)[..bytes.start], "{}", call);
+            assert_eq!(calls.area(0)[bytes.end..], calls.area(1)[bytes.end..], "{}", call);
+            assert!(call == telling || replies[0] == replies[1], "{}", call);
             match call {
-                Call::Reset => assert_eq!(after, [vec![0; 8], vec![0; 8]]),
+                Call::Reset => assert!(after.concat().iter().all(|byte| *byte == 0)),
                 Call::Take(_) | Call::TakeReason(_) => {}
                 _ => assert_eq!(after, before, "{}", call),
             }
         }
-        compare_when(false, "counts, decide nothing", &mut calls);
+        compare_when(false, name, &mut calls);
     }
-    compare_when(true, "counts, decide nothing", &mut calls);
-    tell("counts, decide nothing", calls.count(), "calls", start);
+    compare_when(true, name, &mut calls);
+    tell(name, calls.count(), "calls", start);
+}
+
+#[test]
+fn counts_decide_nothing() {
+    decide_nothing_else("counts, decide nothing", COUNTS, Call::Counts);
 }

@@ -1,5 +1,6 @@
 //! The counts of document 02, #106, event by event: what is counted, and where it stops. Every number is spelled out.
 
+use crate::layout::{COUNTS, LENGTH};
 use crate::records::compare_when;
 use crate::{compare, seed, tell};
 use second::answer::Answer;
@@ -59,17 +60,18 @@ fn with(kind: usize, count: u16, other: u16) -> [u16; 4] {
     counts
 }
 
-/// The end of what `dump` prints.
-pub fn printed(counts: [u16; 4]) -> String {
+/// As `dump` prints them, with what stands behind them.
+fn printed(counts: [u16; 4]) -> String {
     let [accepted, crc, marked, early] = counts;
-    format!(" accepted_count={:X} crc_count={:X} marked_count={:X} early_count={:X}", accepted, crc, marked, early)
+    let first = format!(" accepted_count={:X} crc_count={:X}", accepted, crc);
+    first + &format!(" marked_count={:X} early_count={:X} presence_left=", marked, early)
 }
 
 /// The whole end is printed, and these are its counts.
 pub fn dump(script: &mut Script, side: &str, counts: [u16; 4]) {
     script.say(format_args!("{} dump", side));
     let said = String::from_utf8_lossy(script.last_answer());
-    assert!(said.ends_with(&printed(counts)), "line {}: {:?} in {}", script.lines, counts, said);
+    assert!(said.contains(&printed(counts)), "line {}: {:?} in {}", script.lines, counts, said);
 }
 
 fn take(script: &mut Script, symbol: u16, wanted: &str) {
@@ -99,7 +101,7 @@ fn each_stops_at_65535() {
     tell("counts, stops", script.calls, "calls", start);
 }
 
-/// The record's last eight bytes.
+/// As a record has them.
 fn bytes(counts: [u16; 4]) -> Vec<u8> {
     counts.iter().flat_map(|count| [(count / 256) as u8, (count % 256) as u8]).collect()
 }
@@ -109,8 +111,8 @@ fn bytes(counts: [u16; 4]) -> Vec<u8> {
 fn each_stops_at_65535_from_c() {
     let start = Instant::now();
     let mut calls = Calls::default();
-    let mut reset = vec![0; 100];
-    (reset[1], reset[2], reset[29]) = (100, 2, 1);
+    let mut record = vec![0; LENGTH];
+    (record[1], record[2], record[29]) = (101, 3, 1);
     for (kind, (first, then), other) in every_run() {
         let event = &EVENTS[kind];
         for (side, telling) in [false, true].into_iter().enumerate() {
@@ -119,14 +121,15 @@ fn each_stops_at_65535_from_c() {
                 let given = if telling { [reason, symbols, 0, 0] } else { [0; 4] };
                 assert_eq!(calls.call(side, call), (Answer::Done, given), "{}", call);
             };
-            calls.lay(side, &[&reset[..92], &bytes(with(kind, first, other))].concat());
+            record[COUNTS].copy_from_slice(&bytes(with(kind, first, other)));
+            calls.lay(side, &record);
             event.before.iter().for_each(|symbol| take(&mut calls, *symbol, [0, 0]));
             for count in then {
                 let (last, symbols) = event.symbols.split_last().expect("an event has symbols");
                 symbols.iter().for_each(|symbol| take(&mut calls, *symbol, [0, 0]));
                 take(&mut calls, *last, event.reason);
                 let wanted = with(kind, count, other);
-                assert_eq!(calls.area(side)[92..], bytes(wanted));
+                assert_eq!(calls.area(side)[COUNTS], bytes(wanted));
                 assert_eq!(calls.call(side, Call::Counts), (Answer::Done, wanted));
             }
         }

@@ -74,6 +74,7 @@ fn all_fields() {
     for (name, field) in fields(&mut End::reset()) {
         let values: Vec<u16> = match good_limit(name) {
             Some(511) => vec![0, 1, 0x100, 510, 511, 512, 513, 1023, 1024, 0x8000, 65535],
+            Some(768) => (0..=1030).chain([0x7FFF, 0x8000, 0x8300, 0xFF00, 65535]).collect(),
             None if field.largest() == 65535 => vec![0, 1, 0xFF, 0x100, 0x7FFF, 0x8000, 65533, 65534, 65535],
             _ => (0..=field.largest()).collect(),
         };

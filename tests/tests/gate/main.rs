@@ -1,5 +1,5 @@
 //! The proved program and the calls from C against the second implementation, and all against document 01 with document
-//! 02's requests #101, #102 and #104 to #106.
+//! 02's requests #101, #102 and #104 to #107.
 //!
 //! SIMHADOL_BENCH names the program, SIMHADOL_C the folder of the C programs, SIMHADOL_SEED the first seed.
 
@@ -16,6 +16,9 @@ mod first_fault;
 mod frames;
 mod layout;
 mod links;
+mod presence;
+mod presence_runs;
+mod presence_values;
 mod programs;
 mod read_only_bits;
 mod reason_runs;
@@ -24,6 +27,7 @@ mod record_runs;
 mod records;
 mod upgrades;
 mod vectors;
+mod versions;
 
 use second::generate::Kind;
 use second::proved;

@@ -1,4 +1,4 @@
-//! The C programs as they are, and the driver's other ways to lay an area: document 02, #104 to #106.
+//! The C programs as they are, and the driver's other ways to lay an area: document 02, #104 to #107.
 
 use crate::records::{every_answer_was_given, every_length, every_reason_was_given, some_random_calls};
 use crate::upgrades::every_pair_of_lengths;
@@ -38,7 +38,7 @@ fn tile_plays_the_freeze() {
 #[test]
 fn tests_from_c_pass() {
     let text = printed("calls", &run(program("calls"), ""));
-    assert!(text.ends_with("\n43 tests, 0 failed\n"), "{}", text);
+    assert!(text.ends_with("\n50 tests, 0 failed\n"), "{}", text);
 }
 
 #[test]
@@ -48,7 +48,7 @@ fn header_is_cpp_too() {
 
 #[test]
 fn macros_are_the_lengths() {
-    assert_eq!(printed("driver", &run(driver(program("driver"), "guards"), "length\n")), "100 100 92\n");
+    assert_eq!(printed("driver", &run(driver(program("driver"), "guards"), "length\n")), "101 101 92 100\n");
 }
 
 /// What can't be printed is told, and no success.
@@ -116,7 +116,7 @@ fn no_byte_beyond_by_pages() {
 /// Areas of every length, most of them refused, and random ones, on which each call gives each of its answers.
 fn hold_beyond(name: &str, driver: impl Fn() -> Command) {
     let start = Instant::now();
-    let (lengths, pairs, random) = (every_length(1), every_pair_of_lengths(&[92, 100]), some_random_calls(20_000));
+    let (lengths, pairs, random) = (every_length(1), every_pair_of_lengths(&[92, 100, 101]), some_random_calls(20_000));
     every_answer_was_given(&random, 10);
     every_reason_was_given(&random, 1);
     let mut count = 0;
@@ -165,7 +165,7 @@ fn driver_names_what_it_cannot_read() {
         let errors = String::from_utf8_lossy(&output.stderr);
         assert!(output.status.code() == Some(2), "{:?}: {}", input, output.status);
         assert!(errors.starts_with("driver: line 2: "), "{:?}: {}", input, errors);
-        assert_eq!(output.stdout, b"100 100 92\n", "{:?}", input);
+        assert_eq!(output.stdout, b"101 101 92 100\n", "{:?}", input);
     }
     assert_eq!(run(driver(program("driver"), "elsewhere"), "").status.code(), Some(2));
 }

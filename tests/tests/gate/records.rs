@@ -1,5 +1,5 @@
 //! The calls from C on records, through `tests/c/driver.c`, against the second implementation: document 02, #104, with
-//! #105's reason and #106's counts.
+//! #105's reason, #106's counts and #107's presence.
 //!
 //! After every call answer, value, reason or counts, and all bytes are compared; the guard bytes beside them are
 //! untouched.
@@ -168,7 +168,7 @@ pub fn every_reason_was_given(calls: &Calls, least: usize) {
     }
 }
 
-/// Each value of each of the 100 bytes, met by each call.
+/// Each value of each of the 101 bytes, met by each call.
 #[test]
 fn every_byte() {
     let start = Instant::now();
@@ -189,11 +189,11 @@ fn every_byte() {
         }
     }
     compare_when(true, "records, every byte", &mut calls);
-    assert_eq!(calls.count(), 100 * 256 * 22);
+    assert_eq!(calls.count(), 101 * 256 * 22);
     tell("records, every byte", calls.count(), "calls", start);
 }
 
-/// All lengths that the head can tell, and with them versions 0, 1, 3 and 255, beside the right one.
+/// All lengths that the head can tell, and with them versions 0, 1, 2, 4 and 255, beside the right one.
 #[test]
 fn every_head() {
     let start = Instant::now();
@@ -202,7 +202,7 @@ fn every_head() {
     for length in 0..=65535u16 {
         let mut area = record_of(&any_good_end(&mut random));
         area[..2].copy_from_slice(&length.to_be_bytes());
-        area[2] = random.of(&[2, 2, 0, 1, 3, 255]);
+        area[2] = random.of(&[3, 3, 0, 1, 2, 4, 255]);
         call_on(&mut calls, &area, random.of(&EVERY_CALL));
         compare_when(false, "records, every head", &mut calls);
     }

@@ -8,7 +8,7 @@ use std::fs;
 use std::path::PathBuf;
 use std::time::Instant;
 
-const EXPECTED: &str = "106";
+const EXPECTED: &str = "107";
 
 fn folder() -> PathBuf {
     package().join("vectors")

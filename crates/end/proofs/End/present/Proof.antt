@@ -14,7 +14,7 @@ returns c = rw (told (c .before .bad .ensures) (c .if1 .taken))
 
 returns-2 : tie.Need-returns-2
 unfolding presentOf
-returns-2 c = rw (told (c .before .bad .ensures) (c .if1 .left))
+returns-2 c = rw (told (c .before .before .bad .ensures) (c .before .if1 .left))
 
 pub present-spec : {M : Type 1} → statement M
 present-spec = tie.close (tie.spec bad-requires returns returns-2)

@@ -14,7 +14,7 @@ any-above-requires-2 c κs = search needs
 returns : tie.Need-returns
 unfolding bad
 returns c =
-    let a = c .before .before .before .before .before in
+    let a = c .before .before .before .before .before .before in
     rw (a .before .any-above .ensures, a .any-above2 .ensures) (simp or-assoc)
 
 pub bad-spec : {M : Type 1} → statement M

@@ -29,10 +29,14 @@ enter-requires c κs = search needs
 tally-requires : tie.Need-tally-requires
 tally-requires c κs = search needs
 
+left-after-requires : tie.Need-left-after-requires
+left-after-requires c κs = search needs
+
 returns : tie.Need-returns
 unfolding taken
 returns c =
-    let n = c .before .before in
+    let t = c .before in
+    let n = t .before .before in
     let h = n .before in
     let a = h .before in
     let r = a .before in
@@ -40,8 +44,8 @@ returns c =
     let x = s .before .before .before .before .args in
     let step = accepts-reason (x .symbol) (x .end .collector .count) (s .collect .result .symbols) in
     let accepted = a .is-accepted .ensures ∙ ap isAccepted (r .reason-of .ensures) ∙ step in
-    rw (c .tally .ensures, n .enter .ensures, h .hear .ensures, accepted, r .reason-of .ensures, s .collect .ensures)
-    (rw (s .before .settle .ensures))
+    rw (c .left-after .ensures, t .tally .ensures, n .enter .ensures, h .hear .ensures, accepted, r .reason-of .ensures)
+    (rw (s .collect .ensures, s .before .settle .ensures))
 
 pub taken-spec : {M : Type 1} → statement M
 taken-spec =
@@ -54,4 +58,5 @@ taken-spec =
     hear-requires
     enter-requires
     tally-requires
+    left-after-requires
     returns)

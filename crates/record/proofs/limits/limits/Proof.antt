@@ -1,12 +1,12 @@
 -- `limits::limits` meets its contract: both sides compute to the same bytes.
 -- Assumes nothing.
 use mathlib.Core.Path.{refl}
-use Rattle.record.specs.Record.{bodyOne, bodyOf}
+use Rattle.record.specs.Record.{frontOf, backOf, limits}
 use Rattle.record.proofs.limits.limits.Statement.{statement}
 use Rattle.record.proofs.limits.limits.Tie as tie
 
 returns : tie.Need-returns
-unfolding bodyOne bodyOf
+unfolding limits frontOf backOf
 returns c = refl
 
 pub limits-spec : {M : Type 1} → statement M

@@ -1,7 +1,6 @@
--- `writing::put_counts` meets its contract: two bytes for each count, up to the end.
+-- `writing::put_counts` meets its contract: two bytes for each count.
 -- Assumes nothing.
-use mathlib.Core.Path.{sym, _∙_}
-use Rattle.record.proofs.Parts.{whole}
+use mathlib.Core.Path.{_∙_}
 use borrow.Author.Needs.{needs}
 use Rattle.record.proofs.writing.put_counts.Statement.{statement}
 use Rattle.record.proofs.writing.put_counts.Tie as tie
@@ -43,8 +42,7 @@ returns : tie.Need-returns
 returns c =
     let p = c .before .before in
     let l = p .before .before .before in
-    sym (whole 100 (p .put .last .0) (search needs))
-    ∙ (p .put .ensures
+    p .put .ensures
     ∙ rw (
       l .low4 .ensures,
       l .before .high4 .ensures,
@@ -54,7 +52,7 @@ returns c =
       l .before .before .before .before .before .high2 .ensures,
       l .before .before .before .before .before .before .low .ensures,
       l .before .before .before .before .before .before .before .high .ensures,
-    ))
+    )
 
 pub put-counts-spec : {M : Type 1} → statement M
 put-counts-spec =

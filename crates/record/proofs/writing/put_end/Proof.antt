@@ -1,9 +1,9 @@
--- `writing::put_end` meets its contract: the parts, one behind the other, are the whole record.
+-- `writing::put_end` meets its contract: one part behind the other.
 -- Assumes nothing.
 use Rattle.end.specs.Counting.{listed}
-use Rattle.record.specs.Record.{size, version, headOf, bodyOne, bodyOf, recordOf, twos}
+use Rattle.record.specs.Record.{size, version, two, twos, headOf, frontOf, backOf, bodyOf, recordOf}
 use Rattle.record.specs.Record.{senderBytes, outboxBytes, collectorBytes, heardBytes, inboxBytes}
-use Rattle.record.proofs.Parts.{built, chained}
+use Rattle.record.proofs.Parts.{built}
 use borrow.Author.Needs.{needs}
 use Rattle.record.proofs.writing.put_end.Statement.{statement}
 use Rattle.record.proofs.writing.put_end.Tie as tie
@@ -29,13 +29,17 @@ put-inbox-requires c κs = search needs
 put-counts-requires : tie.Need-put-counts-requires
 put-counts-requires c κs = search needs
 
+put-presence-requires : tie.Need-put-presence-requires
+put-presence-requires c κs = search needs
+
 same-length : tie.Need-same-length
 same-length c = search needs
 
 returns : tie.Need-returns
-unfolding recordOf bodyOne bodyOf
+unfolding recordOf bodyOf frontOf backOf
 returns c =
-    let n = c .before .before in
+    let p = c .before .before in
+    let n = p .before .before .before .before in
     let i = n .before .before .before .before in
     let h = i .before .before .before .before in
     let k = h .before .before .before .before in
@@ -43,11 +47,10 @@ returns c =
     let s = o .before .before .before .before in
     let d = s .before .before .before .before in
     let e = d .before .before .before .before .before .before .before .before .before .args .end in
-    chained _ _ (headOf size version) (bodyOne e) (twos (listed (e .counts)))
-    (built (headOf size version) (senderBytes (e .sender)) (outboxBytes (e .outbox)) (collectorBytes (e .collector))
-    (heardBytes (e .heard)) (inboxBytes (e .inbox)) (d .put-head .ensures) (s .put-sender .ensures)
-    (o .put-outbox .ensures) (k .put-collector .ensures) (h .put-heard .ensures) (i .put-inbox .ensures))
-    (n .put-counts .ensures)
+    built (headOf size version) (senderBytes (e .sender)) (outboxBytes (e .outbox)) (collectorBytes (e .collector))
+    (heardBytes (e .heard)) (inboxBytes (e .inbox)) (twos (listed (e .counts))) (two (e .presence))
+    (d .put-head .ensures) (s .put-sender .ensures) (o .put-outbox .ensures) (k .put-collector .ensures)
+    (h .put-heard .ensures) (i .put-inbox .ensures) (n .put-counts .ensures) (p .put-presence .ensures)
 
 pub put-end-spec : {M : Type 1} → statement M
 put-end-spec =
@@ -60,5 +63,6 @@ put-end-spec =
     put-heard-requires
     put-inbox-requires
     put-counts-requires
+    put-presence-requires
     same-length
     returns)

@@ -35,7 +35,7 @@ returns c =
     let p = c .before .before in
     let s = p .before .before .before .before in
     let a = s .before .before .before .before .before .before .before .before .before .args in
-    chained _ _ (take 79 (a .area .now)) _ (a .inbox .bytes) (s .put .ensures) (p .put-eight .ensures)
+    chained _ _ (take 78 (a .area .now)) _ (a .inbox .bytes) (s .put .ensures) (p .put-eight .ensures)
 
 pub put-inbox-spec : {M : Type 1} → statement M
 put-inbox-spec =

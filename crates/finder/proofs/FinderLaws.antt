@@ -30,7 +30,7 @@ pub passes-length : (l : List ℕ) (k : ℕ) → passes l k ≡ true → k + 12 
 passes-length l k e =
     omega (arith, length-drop k l, length-take 12 (drop k l), acceptable-length (take 12 (drop k l)) e)
 
-passes-not : (l : List ℕ) (k : ℕ) → (passes l k ≡ true → ⊥) → passes l k ≡ false
+pub passes-not : (l : List ℕ) (k : ℕ) → (passes l k ≡ true → ⊥) → passes l k ≡ false
 passes-not l k h = go (passes l k) refl
   where
     go : (b : Bool) → passes l k ≡ b → passes l k ≡ false

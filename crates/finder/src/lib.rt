@@ -2,7 +2,9 @@
 use answer::Answer;
 ghost use mathlib.Core.Path.{_≡_};
 ghost use Prim.Native.Nat.{_+_, _*_};
+ghost use Rattle.frame.specs.Check.{rightAt};
 ghost use Rattle.finder.specs.Finder.{findOf, stretchOf};
+ghost use Rattle.finder.specs.Search.{ruledOut};
 
 // The longest list that is searched, as request #102 has it.
 const LIMIT: usize = 32768;
@@ -11,6 +13,34 @@ const LIMIT: usize = 32768;
 pub struct Found {
     pub answer: Answer,
     pub place: usize,
+}
+
+// Whether a symbol may stand at place k of a frame: what frame::right_at says, without a branch on the place. In the
+// frame check a compiler decides that branch beforehand. Here it can't, and would count the symbol's ones because of it
+// instead of testing the processor's parity flag.
+fn stands(symbol: u16, k: usize) -> bool
+    ensures { λ r. ⌜ r ≡ rightAt k symbol ⌝ }
+{
+    if frame::MARKED <= symbol {
+        return false;
+    }
+    let first = k == 0;
+    frame::parity(symbol) != first
+}
+
+// How many places a fault rules out. Of twelve symbols this one, at place k, may not stand there, and those behind it
+// may: they are odd, and none of them starts a frame. No frame starts before it either: there too it would stand behind
+// the first. So all twelve places fall; but unmarked and behind the first it is even, and may start a frame itself.
+fn ruled_out(symbol: u16, k: usize) -> usize
+    ensures { λ r. ⌜ r ≡ ruledOut symbol k ⌝ }
+{
+    if frame::MARKED <= symbol {
+        return frame::SYMBOLS;
+    }
+    if k == 0 {
+        return frame::SYMBOLS;
+    }
+    k
 }
 
 // The answer, and the smallest place where twelve symbols pass.
@@ -33,14 +63,16 @@ pub fn place(list: &[u16]) -> Found
     let mut at = 0;
     let mut found = false;
     'places: while at + frame::SYMBOLS <= list.len() {
-        let mut k = 0;
-        while k < frame::SYMBOLS {
+        // From the last of the twelve to the first: those behind a fault are then known to start no frame.
+        let mut left = frame::SYMBOLS;
+        while 0 < left {
+            let k = left - 1;
             let symbol = list[at + k];
-            if frame::right_at(symbol, k) {
+            if stands(symbol, k) {
                 symbols[k] = symbol;
-                k += 1;
+                left = k;
             } else {
-                at += 1;
+                at += ruled_out(symbol, k);
                 continue 'places;
             }
         }
@@ -48,7 +80,7 @@ pub fn place(list: &[u16]) -> Found
             found = true;
             break 'places;
         }
-        at += 1;
+        at += frame::SYMBOLS;
     }
     if found {
         Found {

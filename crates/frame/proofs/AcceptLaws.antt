@@ -16,7 +16,7 @@ use Rattle.frame.specs.Frame.{noneMarked, allOdd, paritiesRight, accepta
 use Rattle.frame.proofs.BitsLaws.{xor-false, number-bits, bits-mod, oddOnes-append}
 use Rattle.frame.proofs.FrameLaws.{data-at, crcBytes, build-symbols}
 
-and-both : (a b : Bool) → (a && b) ≡ true → (a ≡ true) × (b ≡ true)
+pub and-both : (a b : Bool) → (a && b) ≡ true → (a ≡ true) × (b ≡ true)
 and-both true b e = (refl, e)
 and-both false b e = absurd (true≢false (sym e))
 

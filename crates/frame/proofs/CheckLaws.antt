@@ -3,7 +3,7 @@
 use Prim.Native.Nat.{ℕ, zero, suc, _+_, _≤_, _<_}
 use native.Mathlib.Numerals.{add-one}
 use native.Mathlib.Omega.{arith}
-use mathlib.Core.Bool.{Bool, true, false, _||_, cond, true≢false}
+use mathlib.Core.Bool.{Bool, true, false, _||_, cond, true≢false, or-true, or-false}
 use mathlib.Core.List.{List, [], _∷_}
 use mathlib.Core.Logic.{_↔_, _≢_}
 use mathlib.Core.Path.{_≡_, refl, sym}
@@ -53,20 +53,22 @@ above-from (s ∷ l) h = rw (le-ltb largest s (h 0)) (above-from l (λ i. h (suc
 pub acceptable-above : (s : List ℕ) → acceptable s ≡ true → someAbove s ≡ false
 acceptable-above s e = above-from s (λ i. omega (arith, acceptable-below s e i))
 
--- ---------------------------------------------------------------- a search from the front
+-- ---------------------------------------------------------------- a look at each from the front
 
-module _ (l : List ℕ) (i : ℕ) (h : i < length l) where
-  pub above-here : largest < getD l i 0 → someAbove (drop i l) ≡ true
+-- a: one of those before place i is above; the whole is this, or one from i on
+module _ (l : List ℕ) (i : ℕ) (a : Bool) where
+  module _ (h : i < length l) where
+    pub above-here : largest < getD l i 0 → true ≡ (a || someAbove (drop i l))
+    unfolding someAbove
+    above-here k = rw (drop-cons l i 0 h, lt-ltb largest (getD l i 0) k) (sym (or-true a))
+
+    pub above-next : getD l i 0 ≤ largest → (a || someAbove (drop (i + 1) l)) ≡ (a || someAbove (drop i l))
+    unfolding someAbove
+    above-next k = rw (add-one, drop-cons l i 0 h, le-ltb largest (getD l i 0) k)
+
+  pub above-end : length l ≤ i → a ≡ (a || someAbove (drop i l))
   unfolding someAbove
-  above-here k = rw (drop-cons l i 0 h, lt-ltb largest (getD l i 0) k)
-
-  pub above-next : getD l i 0 ≤ largest → someAbove (drop (i + 1) l) ≡ someAbove (drop i l)
-  unfolding someAbove
-  above-next k = rw (add-one, drop-cons l i 0 h, le-ltb largest (getD l i 0) k)
-
-pub above-end : (l : List ℕ) (i : ℕ) → length l ≤ i → someAbove (drop i l) ≡ false
-unfolding someAbove
-above-end l i h = rw (drop-of-length-le l h)
+  above-end h = rw (drop-of-length-le l h) (sym (or-false a))
 
 -- ---------------------------------------------------------------- the rows
 

@@ -1,10 +1,11 @@
 -- Which symbol may stand at which place: what `rightAt` says, and that a frame is acceptable where all of its twelve
--- symbols are right and the CRC is. `rightFrom` is what the loops over twelve symbols keep.
+-- symbols are right and the CRC is. `rightFrom` is what the finder's inner loop keeps.
 --   rightFrom i l   the symbols of l may stand at the places i, i + 1 .. of a frame
 -- Assumes nothing.
-use Prim.Native.Nat.{ℕ, suc, _+_, _≤_, _<_}
-use native.Mathlib.Numerals.{add-one}
-use mathlib.Core.Bool.{Bool, true, false, not, _&&_, cond, and-assoc, Bool·not-not}
+use Prim.Native.Nat.{ℕ, zero, suc, _+_, _≤_, _<_}
+use native.Mathlib.Nat.{add-zero}
+use native.Mathlib.Omega.{arith}
+use mathlib.Core.Bool.{Bool, true, false, not, _&&_, cond, and-assoc, true≢false, Bool·not-not}
 use mathlib.Core.List.{List, [], _∷_}
 use mathlib.Core.Path.{_≡_, refl, ap, ap₂, sym, _∙_}
 use borrow.Author.Tests.{le-leb, lt-leb, ne-eqb}
@@ -14,6 +15,7 @@ use lib.Seq.{drop-cons}
 use Rattle.frame.specs.Bits.{bits, oddOnes}
 use Rattle.frame.specs.Check.{rightAt}
 use Rattle.frame.specs.Frame.{marked, even, crcRight, noneMarked, allOdd, paritiesRight, acceptable}
+use Rattle.frame.proofs.AcceptLaws.{and-both}
 
 -- ---------------------------------------------------------------- one symbol
 
@@ -67,16 +69,37 @@ acceptable-right l =
     ap (λ (b : Bool). eqb (length l) 12 && b)
     (sym (and-assoc (noneMarked l) (paritiesRight l) (crcRight l)) ∙ ap (λ (b : Bool). b && crcRight l) (right-all l))
 
--- ---------------------------------------------------------------- a search from the front
+-- ---------------------------------------------------------------- each of them
 
-module _ (l : List ℕ) (i : ℕ) (h : i < length l) where
-  pub right-fault : rightAt i (getD l i 0) ≡ false → rightFrom i (drop i l) ≡ false
-  unfolding rightFrom
-  right-fault e = rw (drop-cons l i 0 h, e)
+-- what may stand at one place behind the first may stand at any other
+pub right-behind : (i j s : ℕ) → 0 < i → 0 < j → rightAt i s ≡ rightAt j s
+unfolding rightAt
+right-behind i j s p q = rw (ne-eqb i 0 (λ e. omega arith), ne-eqb j 0 (λ e. omega arith))
 
-  pub right-next : rightAt i (getD l i 0) ≡ true → rightFrom (i + 1) (drop (i + 1) l) ≡ rightFrom i (drop i l)
-  unfolding rightFrom
-  right-next e = rw (add-one, drop-cons l i 0 h, e)
+-- and starts no frame
+pub right-starts-none : (i s : ℕ) → 0 < i → rightAt i s ≡ true → rightAt 0 s ≡ false
+unfolding rightAt
+right-starts-none i s p e = go (marked s) (even s) (rw (ne-eqb i 0 (λ f. omega arith)) at e)
+  where
+    go : (m b : Bool) → (not m && not b) ≡ true → (not m && b) ≡ false
+    go true b f = refl
+    go false true f = absurd (true≢false (sym f))
+    go false false f = refl
+
+pub right-at : (l : List ℕ) (i j : ℕ) → rightFrom i l ≡ true → j < length l → rightAt (i + j) (getD l j 0) ≡ true
+unfolding rightFrom
+right-at [] i j e h = absurd (omega arith)
+right-at (s ∷ l) i zero e h = rw add-zero (and-both (rightAt i s) _ e .0)
+right-at (s ∷ l) i (suc j) e h =
+    ap (λ (n : ℕ). rightAt n (getD l j 0)) (omega arith)
+    ∙ right-at l (suc i) j (and-both (rightAt i s) _ e .1) (omega arith)
+
+-- ---------------------------------------------------------------- a search from the end
+
+pub right-more : (l : List ℕ) (i : ℕ) → i < length l → rightAt i (getD l i 0) ≡ true
+    → rightFrom (suc i) (drop (suc i) l) ≡ true → rightFrom i (drop i l) ≡ true
+unfolding rightFrom
+right-more l i h e f = rw (drop-cons l i 0 h, e, f)
 
 pub right-end : (l : List ℕ) (i : ℕ) → length l ≤ i → rightFrom i (drop i l) ≡ true
 unfolding rightFrom

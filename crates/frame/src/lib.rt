@@ -120,18 +120,20 @@ fn fault_at(symbol: u16, place: u8) -> Reason
     Reason::Parity(place)
 }
 
-// Whether a list holds a number that is no received symbol.
+// Whether a list holds a number that is no received symbol. It looks at all of them, so that a compiler can take many
+// at a time: a way out at the first would forbid it.
 pub fn some_above(list: &[u16]) -> bool
     ensures { λ r. ⌜ r ≡ someAbove (now (list .entry)) ⌝ }
 {
+    let mut above = false;
     let mut i = 0;
     while i < list.len() {
         if LARGEST < list[i] {
-            return true;
+            above = true;
         }
         i += 1;
     }
-    false
+    above
 }
 
 // What the frame check gives: its answer, and the reason for it, Nothing where the list was not looked at.

@@ -1,27 +1,28 @@
 -- `finder::place` meets its contract: no place before the present one passes, and SearchLaws says what the inner
--- loop keeps of the twelve symbols there. Assumes nothing.
+-- loop keeps of the twelve symbols there, and which places a fault rules out. Assumes nothing.
 use Prim.Native.Nat.{_+_, _-_, _≤_}
 use native.Mathlib.Omega.{arith}
 use mathlib.Core.Bool.{true, false, true≢false}
 use mathlib.Core.Logic.{⊎-elim}
 use mathlib.Core.Path.{_≡_, refl, ap, sym, _∙_}
-use borrow.Author.Count.{below-none, below-more}
-use borrow.Author.Needs.{needs}
+use borrow.Author.Count.{below-none}
 use denote.Ref.{now}
 use lib.ListN.{length}
 use Rattle.answer.specs.declared.Answer.the-variants.{Done}
 use Rattle.finder.proofs.FinderLaws.{NoneBefore}
-use Rattle.finder.proofs.SearchLaws.{window, Matching, matching-start, matching-more, passes-fault, passes-crc}
+use Rattle.finder.proofs.SearchLaws.{window, RuledOut, none-more, Matching, matching-start, matching-more}
+use Rattle.finder.proofs.SearchLaws.{fault-rules-out, passes-crc, crc-rules-out}
 use Rattle.finder.proofs.SearchLaws.{place-length, place-above, place-nowhere, place-found}
+use borrow.Author.Needs.{needs}
 use Rattle.finder.proofs.place.Statement.{statement}
 use Rattle.finder.proofs.place.Tie as tie
 
 abbrev Inv-loop : tie.InvT-loop
-Inv-loop list symbols₀ at₀ found k₀ symbols at k =
-    (at ≡ at₀) × (at + 12 ≤ length list) × (k ≤ 12) × NoneBefore list at × Matching (window list at) symbols k
+Inv-loop list symbols₀ at₀ found left₀ symbols at left =
+    (at ≡ at₀) × (at + 12 ≤ length list) × (left ≤ 12) × NoneBefore list at × Matching (window list at) symbols left
 
 abbrev μ-loop : tie.MeasureT-loop
-μ-loop list symbols₀ at₀ found k₀ symbols at k = 12 - k
+μ-loop list symbols₀ at₀ found left₀ symbols at left = left
 
 abbrev Inv-places : tie.InvT-places
 Inv-places list symbols₀ at₀ found₀ symbols at found =
@@ -53,10 +54,12 @@ loop-holds c = (
   omega arith,
   search needs,
   c .before .places .inv .3,
-  matching-start
-      (window (now (c .before .before .before .before .before .before .args .list)) (c .before .places .at))
-      (c .before .places .symbols) (c .before .places .inv .1),
+  matching-start (now (c .before .before .before .before .before .before .args .list)) (c .before .places .at)
+      (omega arith) (c .before .places .symbols) _ (omega arith) (c .before .places .inv .1),
 )
+
+sub-k : tie.Need-sub-k Inv-loop μ-loop Inv-places μ-places
+sub-k c = search needs
 
 add-symbol : tie.Need-add-symbol Inv-loop μ-loop Inv-places μ-places
 add-symbol c = search needs
@@ -67,17 +70,14 @@ mul-symbol c = search needs
 shared-slice-read-symbol : tie.Need-shared-slice-read-symbol Inv-loop μ-loop Inv-places μ-places
 shared-slice-read-symbol c = search needs
 
-right-at-requires : tie.Need-right-at-requires Inv-loop μ-loop Inv-places μ-places
-right-at-requires c κs = search needs
+stands-requires : tie.Need-stands-requires Inv-loop μ-loop Inv-places μ-places
+stands-requires c κs = search needs
 
 mul-symbols : tie.Need-mul-symbols Inv-loop μ-loop Inv-places μ-places
 mul-symbols c = search needs
 
 array-write-symbols : tie.Need-array-write-symbols Inv-loop μ-loop Inv-places μ-places
 array-write-symbols c = search needs
-
-add-k : tie.Need-add-k Inv-loop μ-loop Inv-places μ-places
-add-k c = search needs
 
 loop-less : tie.Need-loop-less Inv-loop μ-loop Inv-places μ-places
 loop-less c = search needs
@@ -91,29 +91,36 @@ loop-again c =
       here .inv .1,
       search needs,
       here .inv .3,
-      matching-more list (here .at) (here .inv .1) (here .symbols) (here .k)
-          (c .before .before .before .loop-test .taken) (here .inv .4)
-          (sym (c .before .right-at .ensures) ∙ c .if3 .taken),
+      matching-more list (here .at) (here .inv .1) (here .symbols) (here .left) (omega arith) (here .inv .2)
+          (here .inv .4)
+          (sym (c .before .stands .ensures) ∙ c .if3 .taken),
     )
 
+ruled-out-requires : tie.Need-ruled-out-requires Inv-loop μ-loop Inv-places μ-places
+ruled-out-requires c κs = search needs
+
+-- where a symbol is at fault
+ruled : (c : tie.After-ruled-out Inv-loop μ-loop Inv-places μ-places)
+    → RuledOut (now (c .before .before .before .before .before .before .before .before .before .before .before .before
+    .args .list)) (c .before .before .before .before .before .loop .at) (c .ruled-out .result)
+ruled c =
+    let here = c .before .before .before .before .before .loop in
+    fault-rules-out _ (here .at) (here .inv .1) (here .symbols) (here .left) (omega arith) (here .inv .2) (here .inv .4)
+    (sym (c .before .before .stands .ensures) ∙ c .before .if3 .left) _ (c .ruled-out .ensures)
+
 add-at : tie.Need-add-at Inv-loop μ-loop Inv-places μ-places
-add-at c = search needs
+add-at c = omega (arith, ruled c .2)
 
 places-less : tie.Need-places-less Inv-loop μ-loop Inv-places μ-places
-places-less c = search needs
+places-less c = omega (arith, ruled c .1)
 
 places-again : tie.Need-places-again Inv-loop μ-loop Inv-places μ-places
 places-again c =
-    let here = c .before .before .before .before .loop in
-    let list = now (c .before .before .before .before .before .before .before .before .before .before .before .args
-    .list) in (
-      omega arith,
+    let here = c .before .before .before .before .before .loop in (
+      omega (arith, ruled c .2),
       here .inv .4 .room,
-      c .before .before .before .before .before .before .places .inv .2,
-      below-more _ (here .at) (here .inv .3)
-          (passes-fault list (here .at) (here .inv .1) (here .symbols) (here .k)
-          (c .before .before .before .loop-test .taken) (here .inv .4)
-          (sym (c .before .right-at .ensures) ∙ c .if3 .left)),
+      c .before .before .before .before .before .before .before .places .inv .2,
+      none-more _ (here .at) _ (here .inv .3) (ruled c .0),
     )
 
 crc-right-requires : tie.Need-crc-right-requires Inv-loop μ-loop Inv-places μ-places
@@ -132,9 +139,8 @@ places-again-2 c =
       omega arith,
       here .inv .4 .room,
       c .before .before .before .before .before .places .inv .2,
-      below-more _ (here .at) (here .inv .3)
-          (passes-crc list (here .at) (here .inv .1) (here .symbols) (here .k) false
-          (c .before .before .loop-test .left) (here .inv .4)
+      none-more list (here .at) 12 (here .inv .3)
+          (crc-rules-out list (here .at) (here .inv .1) (here .symbols) (here .left) (omega arith) (here .inv .4)
           (sym (c .before .crc-right .ensures) ∙ c .if4 .left)),
     )
 
@@ -145,7 +151,7 @@ returns-3 c =
     (λ w. ap (λ k. record { answer = Done; place = k }) (w .5)
     ∙ place-found list (c .before .before .before .before .before .if1 .left) (w .1 .at)
     (sym (c .before .before .before .before .some-above .ensures) ∙ c .before .before .before .if2 .left) (w .1 .inv .3)
-    (passes-crc list (w .1 .at) (w .1 .inv .1) (w .1 .symbols) (w .1 .k) true (w .2 .left) (w .1 .inv .4)
+    (passes-crc list (w .1 .at) (w .1 .inv .1) (w .1 .symbols) (w .1 .left) true (omega arith) (w .1 .inv .4)
     (sym (w .3 .ensures) ∙ w .4 .taken)))
     (c .before .places-test .came)
 
@@ -172,15 +178,16 @@ place-spec =
     places-holds
     add-places
     loop-holds
+    sub-k
     add-symbol
     mul-symbol
     shared-slice-read-symbol
-    right-at-requires
+    stands-requires
     mul-symbols
     array-write-symbols
-    add-k
     loop-less
     loop-again
+    ruled-out-requires
     add-at
     places-less
     places-again

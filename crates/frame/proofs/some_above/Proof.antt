@@ -1,8 +1,10 @@
--- `frame::some_above` meets its contract: what is left of the list has a number above the largest symbol where the
--- list has. Assumes nothing.
-use borrow.Author.Needs.{needs}
+-- `frame::some_above` meets its contract: the list has a number above the largest symbol where one of those passed is,
+-- or what is left of it has one. Assumes nothing.
 use Prim.Native.Nat.{_-_, _≤_}
-use mathlib.Core.Path.{_≡_, refl, sym, _∙_}
+use mathlib.Core.Bool.{_||_}
+use mathlib.Core.Logic.{⊎-elim}
+use mathlib.Core.Path.{_≡_, refl, _∙_}
+use borrow.Author.Needs.{needs}
 use denote.Ref.{now}
 use lib.ListN.{length, drop}
 use Rattle.frame.specs.Check.{someAbove}
@@ -11,10 +13,10 @@ use Rattle.frame.proofs.some_above.Statement.{statement}
 use Rattle.frame.proofs.some_above.Tie as tie
 
 abbrev Inv-loop : tie.InvT-loop
-Inv-loop list i₀ i = (i ≤ length list) × (someAbove (drop i list) ≡ someAbove list)
+Inv-loop list above₀ i₀ above i = (i ≤ length list) × ((above || someAbove (drop i list)) ≡ someAbove list)
 
 abbrev μ-loop : tie.MeasureT-loop
-μ-loop list i₀ i = length list - i
+μ-loop list above₀ i₀ above i = length list - i
 
 loop-holds : tie.Need-loop-holds Inv-loop μ-loop
 loop-holds c = (search needs, refl)
@@ -25,13 +27,6 @@ mul-if1 c = search needs
 shared-slice-read-if1 : tie.Need-shared-slice-read-if1 Inv-loop μ-loop
 shared-slice-read-if1 c = search needs
 
-returns : tie.Need-returns Inv-loop μ-loop
-returns c =
-    let at = c .before .before .before .loop in
-    sym (sym (at .inv .1)
-    ∙ above-here (now (c .before .before .before .before .args .list)) (at .i) (c .before .before .loop-test .taken)
-    (c .if1 .taken))
-
 add-i : tie.Need-add-i Inv-loop μ-loop
 add-i c = search needs
 
@@ -40,16 +35,18 @@ loop-less c = search needs
 
 loop-again : tie.Need-loop-again Inv-loop μ-loop
 loop-again c =
-    let at = c .before .before .before .loop in (
+    let at = c .before .before .before .loop in
+    let list = now (c .before .before .before .before .args .list) in
+    let inside = c .before .before .loop-test .taken in (
       search needs,
-      above-next (now (c .before .before .before .before .args .list)) (at .i) (c .before .before .loop-test .taken)
-          (c .if1 .left) ∙ at .inv .1,
+      ⊎-elim (λ w. rw (w .1) (above-here list (at .i) (at .above) inside (w .0 .taken) ∙ at .inv .1))
+          (λ w. rw (w .1) (above-next list (at .i) (at .above) inside (w .0 .left) ∙ at .inv .1)) (c .if1 .came),
     )
 
-returns-2 : tie.Need-returns-2 Inv-loop μ-loop
-returns-2 c =
+returns : tie.Need-returns Inv-loop μ-loop
+returns c =
     let at = c .before .loop in
-    sym (sym (at .inv .1) ∙ above-end (now (c .before .before .args .list)) (at .i) (c .loop-test .left))
+    above-end (now (c .before .before .args .list)) (at .i) (at .above) (c .loop-test .left) ∙ at .inv .1
 
 pub some-above-spec : {M : Type 1} → statement M
 some-above-spec =
@@ -60,8 +57,7 @@ some-above-spec =
     loop-holds
     mul-if1
     shared-slice-read-if1
-    returns
     add-i
     loop-less
     loop-again
-    returns-2)
+    returns)

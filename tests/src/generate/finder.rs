@@ -1,9 +1,10 @@
 //! Captures for the finder.
 
+use super::classes::{Class, CLASSES};
 use super::frames::{data_bytes, flip};
 use super::Writer;
 use crate::finder::LIMIT;
-use crate::frame::{build, Frame, MARK, SYMBOLS};
+use crate::frame::{build, is_acceptable, Frame, MARK, SYMBOLS};
 use crate::random::Random;
 use crate::script::Script;
 
@@ -63,6 +64,32 @@ fn add_stretch(list: &mut Vec<u16>, random: &mut Random) {
     }
 }
 
+/// Odd symbols, broken by others here and there, with frames laid over them and over each other.
+pub fn runs(seed: u64, lines: usize) -> Script {
+    let mut writer = Writer::new(seed);
+    while writer.script.lines < lines {
+        let list = run(&mut writer.random);
+        writer.script.say_list("find", &list);
+    }
+    writer.script
+}
+
+fn run(random: &mut Random) -> Vec<u16> {
+    let (length, rare) = (random.below(80), 1 + random.below(20));
+    let mut list = noise(Noise::Odd, length, random);
+    for symbol in &mut list {
+        if random.one_in(rare) {
+            *symbol = random.of(&CLASSES).symbol(random);
+        }
+    }
+    for _ in 0..random.below(4) {
+        let frame = if random.bool() { build(&data_bytes(random)) } else { wrong_frame(random) };
+        let place = random.below(length + 1);
+        list.iter_mut().skip(place).zip(frame).for_each(|(symbol, laid)| *symbol = laid);
+    }
+    list
+}
+
 /// Symbols among which no frame stands, however many.
 #[derive(Clone, Copy, Debug)]
 pub enum Noise {
@@ -78,12 +105,10 @@ pub const NOISES: [Noise; 4] = [Noise::Odd, Noise::Even, Noise::Marked, Noise::W
 pub fn noise(kind: Noise, length: usize, random: &mut Random) -> Vec<u16> {
     let mut list = Vec::new();
     while list.len() < length {
-        let symbol = random.word(512);
-        let odd = symbol.count_ones() % 2 == 1;
         match kind {
-            Noise::Odd => list.push(symbol ^ u16::from(!odd)),
-            Noise::Even => list.push(symbol ^ u16::from(odd)),
-            Noise::Marked => list.push(symbol | MARK),
+            Noise::Odd => list.push(Class::Odd.symbol(random)),
+            Noise::Even => list.push(Class::Even.symbol(random)),
+            Noise::Marked => list.push(Class::Marked.symbol(random)),
             Noise::WrongFrames => list.extend(wrong_frame(random)),
         }
     }
@@ -96,4 +121,16 @@ fn wrong_frame(random: &mut Random) -> Frame {
     let place = random.below(SYMBOLS);
     flip(&mut frame[place..=place], 2, random);
     frame
+}
+
+/// The list but for frames of chance, as one in 65,536 stretches of right parities is one: two wrong bits in the last
+/// symbol, which the CRC shows.
+pub fn without_frames(mut list: Vec<u16>) -> Vec<u16> {
+    for end in SYMBOLS..=list.len() {
+        let stretch = &mut list[end - SYMBOLS..end];
+        if Frame::try_from(&*stretch).map_or(false, |frame| is_acceptable(&frame)) {
+            stretch[SYMBOLS - 1] ^= 3;
+        }
+    }
+    list
 }

@@ -1,5 +1,6 @@
 //! Random scripts, each made from its seed alone.
 
+mod classes;
 mod ends;
 mod finder;
 mod frames;
@@ -7,8 +8,9 @@ mod lines;
 mod links;
 mod records;
 
+pub use classes::{symbols_of, words, Class, CLASSES};
 pub use ends::{control_value, ends, good_limit};
-pub use finder::{captures, noise, NOISES};
+pub use finder::{captures, noise, runs, without_frames, NOISES};
 pub use frames::{data_bytes, frames};
 pub use lines::lines;
 pub use links::links;
@@ -20,8 +22,8 @@ use crate::script::Script;
 /// A kind of script: from a seed and about how many lines are wanted.
 pub type Kind = fn(u64, usize) -> Script;
 
-pub const KINDS: [(&str, Kind); 5] =
-    [("frames", frames), ("captures", captures), ("ends", ends), ("links", links), ("lines", lines)];
+pub const KINDS: [(&str, Kind); 6] =
+    [("frames", frames), ("captures", captures), ("runs", runs), ("ends", ends), ("links", links), ("lines", lines)];
 
 const SIDES: [&str; 2] = ["a", "b"];
 

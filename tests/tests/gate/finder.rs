@@ -2,7 +2,7 @@
 
 use crate::{compare, compare_random, seed, tell};
 use second::frame::build;
-use second::generate::{captures, data_bytes, noise, NOISES};
+use second::generate::{captures, data_bytes, noise, without_frames, NOISES};
 use second::random::Random;
 use second::script::Script;
 use std::time::Instant;
@@ -92,6 +92,29 @@ fn the_only_frame_at_the_very_end() {
     }
     compare("finder, the very end", &script);
     tell("finder, the very end", script.lines, "lines", start);
+}
+
+/// As many random symbols as are searched, none of them marked or half of them, with one frame: first, last, cut short
+/// by the end of the list, or anywhere.
+#[test]
+fn the_only_frame_among_random_symbols() {
+    let start = Instant::now();
+    let mut random = Random::new(seed());
+    let mut script = Script::new(seed());
+    for below in [512, 1024] {
+        let last = LONGEST - 12;
+        let anywhere = [(); 8].map(|_| random.below(last));
+        for place in [0, last, last + 1].into_iter().chain(anywhere) {
+            let mut list = without_frames((0..place).map(|_| random.word(below)).collect());
+            list.extend(build(&data_bytes(&mut random)));
+            list.resize_with(LONGEST, || random.word(below));
+            script.say_list("find", &list);
+            let wanted = if place > last { "8 0 0".to_string() } else { format!("0 {} 12", place) };
+            assert_eq!(script.last_answer(), wanted.as_bytes(), "below {}, place {}", below, place);
+        }
+    }
+    compare("finder, random symbols", &script);
+    tell("finder, random symbols", script.lines, "lines", start);
 }
 
 /// A value above 1,023 refuses the whole list, also after a good frame.

@@ -12,6 +12,8 @@ mod demand3;
 mod ends;
 mod faults;
 mod finder;
+mod finder_skips;
+mod finder_values;
 mod first_fault;
 mod frames;
 mod layout;

@@ -1,9 +1,11 @@
 //! Holds the proved calls against the plain ones on random input, so that what is measured is the same work.
 
+use crate::captures::{frame, groups, place};
 use crate::plain::{Bitwise, Boost, Plain, Table};
 use crate::proved::Proved;
 use crate::random::Random;
-use crate::{capture, frame, Calls};
+use crate::skipping::Skipping;
+use crate::{Calls, Finds};
 
 const TURNS: u32 = 20_000;
 const SLOTS: [u32; 5] = [0, 1, 25, 4_800, 100_000];
@@ -20,6 +22,18 @@ fn same_lists(list: &[u16]) {
     same!(check, list);
     same!(found, list);
     same!(place, list);
+    assert_eq!((Skipping::found(list), Skipping::place(list)), (Proved::found(list), Proved::place(list)), "skipping");
+}
+
+/// How many captures there are; everyone finds each one's frame.
+fn same_captures() -> usize {
+    let captures: Vec<_> = groups().into_iter().flatten().collect();
+    for capture in &captures {
+        let list = capture.list();
+        same_lists(&list);
+        assert_eq!((Proved::found(&list), Proved::place(&list)), (0, place(list.len())), "{}", capture.kind.name);
+    }
+    captures.len()
 }
 
 pub fn all() {
@@ -38,14 +52,12 @@ pub fn all() {
         }
         same_lists(&list);
     }
-    for below in [512, 1024] {
-        same_lists(&capture(&mut random, below));
-    }
+    let captures = same_captures();
     for length in [0, 4097, 32_768, 32_769] {
         same_lists(&vec![0; length]);
     }
     for count in SLOTS {
         same!(slots, count);
     }
-    println!("the same results on {TURNS} random lists, two captures and {} slots", SLOTS.iter().sum::<u32>());
+    println!("the same results on {TURNS} random lists, {captures} captures and {} slots", SLOTS.iter().sum::<u32>());
 }

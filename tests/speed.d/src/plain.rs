@@ -2,11 +2,11 @@
 //! by a table of 512 bytes, or by Boost; bit 0 of its register is S15.
 
 use crate::plain_end::End;
-use crate::Calls;
+use crate::{Calls, Finds};
 use std::marker::PhantomData;
 
 /// The longest list that is searched: request #102.
-const LIMIT: usize = 32_768;
+pub const LIMIT: usize = 32_768;
 
 pub trait Crc {
     fn crc(bytes: &[u8; 10]) -> u16;
@@ -19,7 +19,8 @@ pub struct Table;
 pub struct Boost;
 
 extern "C" {
-    fn boost_crc(ten_bytes: *const u8) -> u16;
+    // Cut from 32 bits, as in `proved`.
+    fn boost_crc(ten_bytes: *const u8) -> u32;
 }
 
 const fn eight_bits(mut register: u16) -> u16 {
@@ -56,7 +57,7 @@ impl Crc for Table {
 impl Crc for Boost {
     fn crc(bytes: &[u8; 10]) -> u16 {
         // It reads these ten bytes and no more.
-        unsafe { boost_crc(bytes.as_ptr()) }
+        unsafe { boost_crc(bytes.as_ptr()) as u16 }
     }
 }
 
@@ -65,7 +66,7 @@ pub fn is_even(symbol: u16) -> bool {
 }
 
 /// The symbol with this data and an even number of ones, or an odd one.
-fn symbol(byte: u8, even: bool) -> u16 {
+pub fn symbol(byte: u8, even: bool) -> u16 {
     let data = u16::from(byte);
     if is_even(data) == even {
         data
@@ -109,19 +110,20 @@ fn check<C: Crc>(list: &[u16]) -> u8 {
     }
 }
 
+/// Place by place, as document 01 has it. Unlike the check it has one loop over all twelve symbols, symbol 0 too, and
+/// looks for the largest symbol and not for one that is too large: both were the quicker of the ways tried.
 fn find<C: Crc>(list: &[u16]) -> (u8, usize) {
     if list.len() > LIMIT {
         return (7, 0);
     }
-    if list.iter().any(|symbol| *symbol > 1023) {
+    if list.iter().copied().max() > Some(1023) {
         return (5, 0);
     }
-    for (place, stretch) in list.windows(12).enumerate() {
-        if <&[u16; 12]>::try_from(stretch).map_or(false, is_acceptable::<C>) {
-            return (0, place);
-        }
-    }
-    (8, 0)
+    let passes = |stretch: &[u16]| {
+        stretch.iter().enumerate().all(|(place, symbol)| *symbol < 512 && is_even(*symbol) == (place == 0))
+            && stretch.try_into().map_or(false, has_right_crc::<C>)
+    };
+    list.windows(12).position(passes).map_or((8, 0), |place| (0, place))
 }
 
 pub struct Plain<C>(PhantomData<C>);
@@ -137,14 +139,6 @@ impl<C: Crc> Calls for Plain<C> {
 
     fn check(list: &[u16]) -> u8 {
         check::<C>(list)
-    }
-
-    fn found(list: &[u16]) -> u8 {
-        find::<C>(list).0
-    }
-
-    fn place(list: &[u16]) -> usize {
-        find::<C>(list).1
     }
 
     /// Two ends joined with delays 0; a message is written at a and the register at b read every 48 slots.
@@ -165,5 +159,15 @@ impl<C: Crc> Calls for Plain<C> {
             sum = plus(plus(sum, from_a), from_b);
         }
         sum
+    }
+}
+
+impl<C: Crc> Finds for Plain<C> {
+    fn found(list: &[u16]) -> u8 {
+        find::<C>(list).0
+    }
+
+    fn place(list: &[u16]) -> usize {
+        find::<C>(list).1
     }
 }

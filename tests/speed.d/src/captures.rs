@@ -26,7 +26,7 @@ static OTHERS: [Kind; 7] = [
     Kind { name: "wrong-CRC-frames", piece: |random| odd_then_wrong_frame(0, random) },
     // The most looks for a finder that skips: at eleven symbols of 13 twice, at one once.
     Kind { name: "odd-then-wrong-CRC-frame", piece: |random| odd_then_wrong_frame(1, random) },
-    // Nearly as many, and a processor can't foretell them: the slowest that was found for such a finder.
+    // Nearly as many, and where the next frame starts is random: the slowest that was found for such a finder.
     Kind { name: "1-or-2-odd-then-wrong-CRC-frame", piece: |random| odd_then_wrong_frame(1 + random.below(2), random) },
     Kind {
         name: "one-in-12-even-else-odd",

@@ -21,7 +21,7 @@ use Rattle.end.specs.declared.End.{End}
 use Rattle.end.specs.Good.{resetOf}
 use Rattle.end.specs.Taking.{takeOf}
 use Rattle.end.specs.Registers.{readOf, writeOf}
-use Rattle.link.specs.Link.{Access, Harm, Event, start, run}
+use Rattle.link.specs.Link.{Access, Harm, Event, resetWorld, run}
 
 pub data Case : Type 0 where
   P1 P2 P3 P4 P5 P6 P7 P8 P9 P10 P11 : Case
@@ -43,13 +43,13 @@ abbrev pub check : List ℕ → List ℕ
 check l = numberOf (checkedOf l .answer) ∷ []
 
 abbrev pub near : List Event → End
-near es = run 0 0 es start .a .end
+near es = run 0 0 es resetWorld .a .end
 
 abbrev pub far : List Event → End
-far es = run 0 0 es start .b .end
+far es = run 0 0 es resetWorld .b .end
 
 abbrev pub sent : List Event → List ℕ
-sent es = reverse (run 0 0 es start .a .sent)
+sent es = reverse (run 0 0 es resetWorld .a .sent)
 
 abbrev pub read : ℕ → End → List ℕ
 read r e = numberOf (readOf e r .answer) ∷ readOf e r .value ∷ []

@@ -15,14 +15,14 @@ use Rattle.end.specs.declared.End.{End}
 use Rattle.end.specs.Good.{resetOf}
 use Rattle.end.specs.Taking.{takeOf}
 use Rattle.end.specs.Registers.{writeOf}
-use Rattle.link.specs.Link.{Access, Event, start, run}
+use Rattle.link.specs.Link.{Access, Event, resetWorld, run}
 use Rattle.cases.specs.Cases.{Row, row, near, far, sent, read, write, control, report, slots}
 
 pub data Extra : Type 0 where
   Health Ping Toggles Settling ReadOnlyBits : Extra
 
 abbrev pub sentBack : List Event → List ℕ
-sentBack es = reverse (run 0 0 es start .b .sent)
+sentBack es = reverse (run 0 0 es resetWorld .b .sent)
 
 -- the near end's health is 3 and its PingTx 1, the far end's health 2
 abbrev pub pinged : List Event

@@ -1,10 +1,9 @@
 -- Reading and writing a register, register by register.
---   below-four          a fact of each register of a group of four
 --   outside-*           the numbers outside 3.2308 to 3.2317
 --   read-*, write-*     what readOf and writeOf give, for an end that answer 1 does not meet
 --   mask-*              the code's mask picks out the bits of 3.2308 that cannot be written
 -- Assumes nothing.
-use Prim.Native.Nat.{ℕ, zero, suc, _+_, _*_, _/_, _%_, _<_}
+use Prim.Native.Nat.{ℕ, _+_, _*_, _/_, _%_, _<_}
 use mathlib.Core.Bool.{Bool, true, false, _&&_, _||_}
 use mathlib.Core.Path.{_≡_, refl, sym, ap, ap₂, _∙_}
 use native.Mathlib.Omega.{arith}
@@ -12,19 +11,13 @@ use lib.Bits.{bitAnd, and-block, and-mask}
 use lib.Dec.{ltb}
 use lib.Pow.{split}
 use borrow.Author.Tests.{lt-ltb, le-ltb, ltb-false}
+use Rattle.laws.proofs.Lists.{below-four}
 use Rattle.answer.specs.declared.Answer.the-variants.{Done, NoRegister, ReadOnly, ReadOnlyBits, Blocked}
 use Rattle.end.specs.declared.End.{End}
 use Rattle.end.specs.Good.{bad}
-use Rattle.end.specs.Registers.{outside, readOnly, pair, valueOf, readEnd, readOf}
-use Rattle.end.specs.Registers.{readOnlyBits, blocked, writeBytes, written, writeOf}
-use Rattle.end.proofs.Laws.{cond-true, cond-false, and-yes, and-no}
-
-pub below-four : (P : ℕ → Type 0) → P 0 → P 1 → P 2 → P 3 → (i : ℕ) → i < 4 → P i
-below-four P a b c d zero h = a
-below-four P a b c d (suc zero) h = b
-below-four P a b c d (suc (suc zero)) h = c
-below-four P a b c d (suc (suc (suc zero))) h = d
-below-four P a b c d (suc (suc (suc (suc i)))) h = absurd (omega arith)
+use Rattle.end.specs.Registers.{outside, readOnly, pair, valueOf, readEnd, readOf, readOnlyBits, blocked}
+use Rattle.end.specs.Registers.{writeBytes, written, writeOf}
+use Rattle.laws.proofs.Bools.{cond-true, cond-false, and-yes, and-no}
 
 pub outside-below : (r : ℕ) → r < 2308 → outside r ≡ true
 outside-below r h = rw (lt-ltb r 2308 h)

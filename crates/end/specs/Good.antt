@@ -1,22 +1,16 @@
 -- Answer 1 of document 01, the end after reset, and presence.
---   above b l     some number of l is above b
 --   bad e         what answer 1 meets: a position or count above 11, a stored symbol above 511, a health above 3, a
 --                 number above 15 or (request #107) a presence above 768
 --   resetOf       everything 0, the sender ready, the position 0
 --   presentOf e   something is left of presence; no for an end that answer 1 meets
 -- Assumes nothing.
-use Prim.Native.Nat.{ℕ}
 use mathlib.Core.Bool.{Bool, true, false, not, _&&_, _||_}
-use mathlib.Core.List.{List, [], _∷_}
 use lib.Dec.{ltb}
 use lib.ListN.{replicate}
+use Rattle.laws.specs.Above.{above}
 use Rattle.end.specs.declared.End.{End}
-use Rattle.end.specs.Counting.{noCounts}
-use Rattle.end.specs.Presence.{lasting}
-
-unfoldable pub above : ℕ → List ℕ → Bool
-above b [] = false
-above b (x ∷ l) = ltb b x || above b l
+use Rattle.receiver.specs.Counting.{noCounts}
+use Rattle.receiver.specs.Presence.{lasting}
 
 unfoldable pub bad : End → Bool
 bad e =

@@ -1,7 +1,8 @@
-pub mod Counting
-pub mod Presence
 pub mod Good
+pub mod Parts
 pub mod Sending
 pub mod Taking
 pub mod Registers
 pub mod Names
+pub mod Calls
+pub mod Shape

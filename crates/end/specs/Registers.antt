@@ -12,13 +12,16 @@ use mathlib.Core.Bool.{Bool, true, false, not, cond, _&&_, _||_}
 use mathlib.Core.List.{List}
 use lib.Dec.{eqb, leb, ltb}
 use lib.ListN.{getD, set}
-use Rattle.answer.specs.declared.Answer.the-variants.{Done, BadEnd, NoRegister, ReadOnly, ReadOnlyBits, Blocked, BadHealth}
-use Rattle.frame.specs.Bits.{odd}
+use Rattle.answer.specs.declared.Answer.the-variants.{Done, BadEnd, NoRegister, ReadOnly, ReadOnlyBits, Blocked}
+use Rattle.answer.specs.declared.Answer.the-variants.{BadHealth}
+use Rattle.crc.specs.Bits.{odd}
 use Rattle.end.specs.declared.End.{End}
 use Rattle.end.specs.declared.Outbox.{Outbox}
 use Rattle.end.specs.declared.Got.{Got}
 use Rattle.end.specs.declared.Next.{Next}
 use Rattle.end.specs.Good.{bad}
+use Rattle.end.specs.Parts.{withSender, withOutbox, withInbox, withHealthToSend, withPending, withReceived, withNumber}
+use Rattle.end.specs.Parts.{withPing, withBytes, withFull}
 use Rattle.end.specs.Sending.{bit}
 
 abbrev pub outside : ℕ → Bool
@@ -55,30 +58,9 @@ valueOf e r =
 
 -- reading 3.2308 clears Received, reading 3.2317 makes the receive register empty
 abbrev pub readEnd : End → ℕ → End
-readEnd e r = record {
-  sender = e .sender;
-  outbox = record {
-    pending = e .outbox .pending;
-    toggle = e .outbox .toggle;
-    received = cond (eqb r 2308) false (e .outbox .received);
-    confirmed = e .outbox .confirmed;
-    number = e .outbox .number;
-    ping = e .outbox .ping;
-    bytes = e .outbox .bytes;
-  };
-  collector = e .collector;
-  heard = e .heard;
-  inbox = record {
-    expected = e .inbox .expected;
-    acknowledge = e .inbox .acknowledge;
-    full = cond (eqb r 2317) false (e .inbox .full);
-    toggle = e .inbox .toggle;
-    number = e .inbox .number;
-    bytes = e .inbox .bytes;
-  };
-  counts = e .counts;
-  presence = e .presence;
-}
+readEnd e r =
+    withInbox (withOutbox e (withReceived (e .outbox) (cond (eqb r 2308) false (e .outbox .received))))
+    (withFull (e .inbox) (cond (eqb r 2317) false (e .inbox .full)))
 
 unfoldable pub readOf : End → ℕ → Got
 readOf e r =
@@ -99,26 +81,13 @@ blocked e r v = e .outbox .pending && (not (eqb r 2308) || odd (v / 32768))
 
 -- nothing pending: bit 15, number and PingTx are stored; while one is pending only PingTx changes
 abbrev pub writeControl : Outbox → ℕ → Outbox
-writeControl o v = record {
-  pending = cond (o .pending) true (odd (v / 32768));
-  toggle = o .toggle;
-  received = o .received;
-  confirmed = o .confirmed;
-  number = cond (o .pending) (o .number) (v / 256 % 16);
-  ping = odd (v / 4);
-  bytes = o .bytes;
-}
+writeControl o v =
+    withPing
+    (withNumber (withPending o (cond (o .pending) true (odd (v / 32768)))) (cond (o .pending) (o .number) (v / 256 % 16)))
+    (odd (v / 4))
 
 abbrev pub writeBytes : Outbox → ℕ → ℕ → Outbox
-writeBytes o i v = record {
-  pending = o .pending;
-  toggle = o .toggle;
-  received = o .received;
-  confirmed = o .confirmed;
-  number = o .number;
-  ping = o .ping;
-  bytes = set (set (o .bytes) (2 * i) (v % 256)) (2 * i + 1) (v / 256);
-}
+writeBytes o i v = withBytes o (set (set (o .bytes) (2 * i) (v % 256)) (2 * i + 1) (v / 256))
 
 -- one of two, field by field
 abbrev pub pickOutbox : Bool → Outbox → Outbox → Outbox
@@ -133,15 +102,8 @@ pickOutbox b x y = record {
 }
 
 abbrev pub written : End → ℕ → ℕ → End
-written e r v = record {
-  sender = e .sender;
-  outbox = pickOutbox (eqb r 2308) (writeControl (e .outbox) v) (writeBytes (e .outbox) (r - 2309) v);
-  collector = e .collector;
-  heard = e .heard;
-  inbox = e .inbox;
-  counts = e .counts;
-  presence = e .presence;
-}
+written e r v =
+    withOutbox e (pickOutbox (eqb r 2308) (writeControl (e .outbox) v) (writeBytes (e .outbox) (r - 2309) v))
 
 unfoldable pub writeOf : End → ℕ → ℕ → Next
 writeOf e r v =
@@ -160,22 +122,7 @@ writeOf e r v =
 -- The health to send
 
 abbrev pub withHealth : End → ℕ → End
-withHealth e h = record {
-  sender = record {
-    symbols = e .sender .symbols;
-    position = e .sender .position;
-    toggle = e .sender .toggle;
-    ready = e .sender .ready;
-    health = h;
-    loaded = e .sender .loaded;
-  };
-  outbox = e .outbox;
-  collector = e .collector;
-  heard = e .heard;
-  inbox = e .inbox;
-  counts = e .counts;
-  presence = e .presence;
-}
+withHealth e h = withSender e (withHealthToSend (e .sender) h)
 
 unfoldable pub healthOf : End → ℕ → Next
 healthOf e h =

@@ -1,9 +1,10 @@
 -- Document 01, "Sending, one symbol a slot".
 --   bit b w          w where b is set, else 0: a bit of weight w
 --   acked e          step 1's test: the last accepted frame acknowledged what is in the sender
---   stepOne a e      step 1, where its test gave a, but for Valid, which stands in the frame
+--   ackedSender, ackedOutbox, stepOne   step 1, where its test gave a, but for Valid, which stands in the frame
 --   loads e          step 3's test: a message is pending and the sender is ready
 --   wordZero, wordOne, tenBytes   the ten data bytes of the frame made in steps 2 and 3
+--   madeSender, madeOutbox, stepsTwoToFour   steps 2 to 4, from the end after step 1
 --   frameStart e     the end with the frame of position 0 made, steps 1 to 4
 --   slotOf e         the end whose symbol goes out: a frame is made at position 0
 --   movedOn e        the position moves on
@@ -15,11 +16,15 @@ use mathlib.Core.List.{List, _∷_, map}
 use lib.Dec.{eqb}
 use lib.ListN.{getD, take, drop}
 use Rattle.answer.specs.declared.Answer.the-variants.{Done, BadEnd}
-use Rattle.frame.specs.Bits.{odd}
+use Rattle.crc.specs.Bits.{odd}
 use Rattle.frame.specs.Frame.{build, dataOf}
 use Rattle.end.specs.declared.End.{End}
+use Rattle.end.specs.declared.Outbox.{Outbox}
+use Rattle.end.specs.declared.Sender.{Sender}
 use Rattle.end.specs.declared.Sent.{Sent}
 use Rattle.end.specs.Good.{bad}
+use Rattle.end.specs.Parts.{withSender, withOutbox, atPosition, withSymbols, withToggle, withReady, withLoaded}
+use Rattle.end.specs.Parts.{withPending, withRegister, withReceived, withConfirmed}
 
 abbrev pub bit : Bool → ℕ → ℕ
 bit b w = cond b w 0
@@ -28,31 +33,18 @@ unfoldable pub acked : End → Bool
 acked e = e .heard .ack && Bool·beq (e .heard .togack) (e .sender .toggle)
 
 -- step 1, where its test gave a
+abbrev pub ackedSender : Bool → End → Sender
+ackedSender a e =
+    withReady (withToggle (e .sender) (cond a (e .outbox .toggle) (e .sender .toggle)))
+    (cond a true (e .sender .ready))
+
+abbrev pub ackedOutbox : Bool → End → Outbox
+ackedOutbox a e =
+    withConfirmed (withReceived (e .outbox) (cond a true (e .outbox .received)))
+    (cond a (e .heard .togack) (e .outbox .confirmed))
+
 abbrev pub stepOne : Bool → End → End
-stepOne a e = record {
-  sender = record {
-    symbols = e .sender .symbols;
-    position = e .sender .position;
-    toggle = cond a (e .outbox .toggle) (e .sender .toggle);
-    ready = cond a true (e .sender .ready);
-    health = e .sender .health;
-    loaded = e .sender .loaded;
-  };
-  outbox = record {
-    pending = e .outbox .pending;
-    toggle = e .outbox .toggle;
-    received = cond a true (e .outbox .received);
-    confirmed = cond a (e .heard .togack) (e .outbox .confirmed);
-    number = e .outbox .number;
-    ping = e .outbox .ping;
-    bytes = e .outbox .bytes;
-  };
-  collector = e .collector;
-  heard = e .heard;
-  inbox = e .inbox;
-  counts = e .counts;
-  presence = e .presence;
-}
+stepOne a e = withOutbox (withSender e (ackedSender a e)) (ackedOutbox a e)
 
 abbrev pub loads : End → Bool
 loads e = e .outbox .pending && e .sender .ready
@@ -83,66 +75,33 @@ wordOne a l e =
 abbrev pub tenBytes : Bool → Bool → End → List ℕ
 tenBytes a l e = wordZero e ∷ wordOne a l e ∷ cond l (e .outbox .bytes) (oldBytes e)
 
--- steps 2 to 4, from the end after step 1
+-- steps 2 to 4, from the end after step 1: the frame, the health as loaded, and where a message is loaded (l) pending,
+-- register toggle and readiness
+abbrev pub madeSender : Bool → Bool → End → Sender
+madeSender a l e =
+    withLoaded (withReady (withSymbols (e .sender) (build (tenBytes a l e))) (cond l false (e .sender .ready)))
+    (e .sender .health)
+
+abbrev pub madeOutbox : Bool → End → Outbox
+madeOutbox l e =
+    withRegister (withPending (e .outbox) (cond l false (e .outbox .pending)))
+    (cond l (not (e .outbox .toggle)) (e .outbox .toggle))
+
 abbrev pub stepsTwoToFour : Bool → Bool → End → End
-stepsTwoToFour a l e = record {
-  sender = record {
-    symbols = build (tenBytes a l e);
-    position = e .sender .position;
-    toggle = e .sender .toggle;
-    ready = cond l false (e .sender .ready);
-    health = e .sender .health;
-    loaded = e .sender .health;
-  };
-  outbox = record {
-    pending = cond l false (e .outbox .pending);
-    toggle = cond l (not (e .outbox .toggle)) (e .outbox .toggle);
-    received = e .outbox .received;
-    confirmed = e .outbox .confirmed;
-    number = e .outbox .number;
-    ping = e .outbox .ping;
-    bytes = e .outbox .bytes;
-  };
-  collector = e .collector;
-  heard = e .heard;
-  inbox = e .inbox;
-  counts = e .counts;
-  presence = e .presence;
-}
+stepsTwoToFour a l e = withOutbox (withSender e (madeSender a l e)) (madeOutbox l e)
 
 unfoldable pub frameStart : End → End
 frameStart e = stepsTwoToFour (acked e) (loads (stepOne (acked e) e)) (stepOne (acked e) e)
 
 -- the position moves on by one, from 11 to 0
 abbrev pub movedOn : End → End
-movedOn e = record {
-  sender = record {
-    symbols = e .sender .symbols;
-    position = cond (eqb (e .sender .position) 11) 0 (e .sender .position + 1);
-    toggle = e .sender .toggle;
-    ready = e .sender .ready;
-    health = e .sender .health;
-    loaded = e .sender .loaded;
-  };
-  outbox = e .outbox;
-  collector = e .collector;
-  heard = e .heard;
-  inbox = e .inbox;
-  counts = e .counts;
-  presence = e .presence;
-}
+movedOn e =
+    withSender e (atPosition (e .sender) (cond (eqb (e .sender .position) 11) 0 (e .sender .position + 1)))
 
 -- the end whose symbol goes out in this slot, where n says that a new frame is made
 abbrev pub started : Bool → End → End
-started n e = record {
-  sender = cond n (frameStart e .sender) (e .sender);
-  outbox = cond n (frameStart e .outbox) (e .outbox);
-  collector = e .collector;
-  heard = e .heard;
-  inbox = e .inbox;
-  counts = e .counts;
-  presence = e .presence;
-}
+started n e =
+    withOutbox (withSender e (cond n (frameStart e .sender) (e .sender))) (cond n (frameStart e .outbox) (e .outbox))
 
 -- the end of this slot: at position 0 a frame is made
 abbrev pub slotOf : End → End

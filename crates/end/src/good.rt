@@ -1,14 +1,15 @@
 // Answer 1, the end after reset, and presence.
-use crate::Collector;
-use crate::Counts;
 use crate::End;
-use crate::Heard;
-use crate::Inbox;
-use crate::LASTING;
 use crate::Outbox;
 use crate::Sender;
+use receiver::Collector;
+use receiver::Counts;
+use receiver::Heard;
+use receiver::Inbox;
+use receiver::LASTING;
 ghost use mathlib.Core.Path.{_≡_};
-ghost use Rattle.end.specs.Good.{above, bad, resetOf, presentOf};
+ghost use Rattle.laws.specs.Above.{above};
+ghost use Rattle.end.specs.Good.{bad, resetOf, presentOf};
 
 impl End {
     // The end after reset: everything 0, the sender ready, the position 0.
@@ -94,16 +95,18 @@ pub fn bad(end: End) -> bool
         | (end.presence > LASTING)
 }
 
-// Some symbol is above the limit.
+// Some symbol is above the limit. It looks at all of them, so that a compiler can take many at a time: a way out at
+// the first would forbid it.
 fn any_above(limit: u16, symbols: [u16; 12]) -> bool
     ensures { λ r. ⌜ r ≡ above limit symbols ⌝ }
 {
+    let mut found = false;
     let mut i = 0;
     while i < 12 {
-        if symbols[i] > limit {
-            return true;
+        if limit < symbols[i] {
+            found = true;
         }
         i += 1;
     }
-    false
+    found
 }

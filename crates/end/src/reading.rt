@@ -2,10 +2,10 @@
 use crate::End;
 use crate::Got;
 use crate::good::bad;
-use crate::message::bit;
-use crate::message::wide;
 use crate::registers::Register;
 use crate::registers::named;
+use crate::weights::bit;
+use crate::weights::wide;
 use answer::Answer;
 ghost use mathlib.Core.Path.{_≡_};
 ghost use mathlib.Core.Bool.{false};

@@ -15,15 +15,17 @@ use lib.ListN.{length, take, drop, length-append, length-drop, take-append-drop}
 use lib.Seq.{drop-at}
 use borrow.Author.Tests.{eqb-true, eq-eqb, not-true, leb-true, leb-false}
 use Rattle.frame.specs.Frame.{marked, even, crcRight, noneMarked, allOdd, paritiesRight, acceptable}
-use Rattle.end.specs.declared.Collector.{Collector}
+use Rattle.receiver.specs.declared.Collector.{Collector}
 use Rattle.end.specs.declared.End.{End}
 use Rattle.end.specs.declared.Taken.{Taken}
 use Rattle.end.specs.Good.{bad, resetOf}
-use Rattle.end.specs.Taking.{collected, accepts, taken, takeOf}
-use Rattle.endlaws.specs.Calls.{Call, after, calls, reached}
+use Rattle.receiver.specs.Receiving.{collected, accepts}
+use Rattle.end.specs.Taking.{taken, takeOf}
+use Rattle.end.specs.Calls.{Call, after, calls, reached}
 use Rattle.endlaws.specs.Taken.{takenBy, takes, lastTwelve}
-use Rattle.endlaws.proofs.Base.{and-both, and-true, not-yes, same-bool}
-use Rattle.endlaws.proofs.Collecting.{collects, Odds, Sound, holding-frame, accepts-twelfth, accepts-only, Trace, sound-snoc, trace-all, trace-start}
+use Rattle.laws.proofs.Bools.{and-both, and-true, not-yes, same-bool}
+use Rattle.endlaws.proofs.Collecting.{collects, Odds, Sound, holding-frame, accepts-twelfth, accepts-only}
+use Rattle.endlaws.proofs.Collecting.{Trace, sound-snoc, trace-all, trace-start}
 use Rattle.endlaws.proofs.Done.{take-good, take-above}
 use Rattle.endlaws.proofs.Goods.{after-good, reset-good}
 use Rattle.endlaws.proofs.Left.{send-leaves, read-leaves, write-leaves, health-leaves}

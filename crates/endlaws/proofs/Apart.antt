@@ -16,20 +16,21 @@ use mathlib.Core.Path.{_≡_, refl, sym, ap, ap₂, _∙_}
 use lib.Dec.{ltb}
 use borrow.Author.Tests.{le-ltb}
 use Rattle.frame.specs.declared.reason.Reason.{Reason}
-use Rattle.end.specs.declared.Counts.{Counts}
+use Rattle.receiver.specs.declared.Counts.{Counts}
 use Rattle.end.specs.declared.End.{End}
 use Rattle.end.specs.declared.Got.{Got}
 use Rattle.end.specs.declared.Next.{Next}
 use Rattle.end.specs.declared.Sent.{Sent}
 use Rattle.end.specs.declared.Taken.{Taken}
-use Rattle.end.specs.Counting.{tallied}
-use Rattle.end.specs.Presence.{lasting}
+use Rattle.receiver.specs.Counting.{tallied}
+use Rattle.receiver.specs.Presence.{lasting}
 use Rattle.end.specs.Good.{bad, presentOf}
 use Rattle.end.specs.Sending.{acked, frameStart, sendOf}
-use Rattle.end.specs.Taking.{placed, accepts, taken, takeOf}
+use Rattle.receiver.specs.Receiving.{placed, accepts}
+use Rattle.end.specs.Taking.{taken, takeOf}
 use Rattle.end.specs.Registers.{outside, readOnly, readOnlyBits, blocked, readOf, writeOf, healthOf}
-use Rattle.end.proofs.Laws.{accepts-reason}
-use Rattle.endlaws.specs.Calls.{Call, after, calls}
+use Rattle.receiver.proofs.Laws.{accepts-reason}
+use Rattle.end.specs.Calls.{Call, after, calls}
 use Rattle.endlaws.specs.Presence.{leftBy, beside}
 use Rattle.endlaws.specs.Reasons.{reasonsOf, reasons}
 use Rattle.endlaws.proofs.Done.{after-keeps}

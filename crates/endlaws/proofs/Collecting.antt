@@ -17,9 +17,9 @@ use lib.ListN.{length, set, take, length-append, drop-of-length-le}
 use lib.Seq.{take-suc-set, set-split}
 use borrow.Author.Tests.{ne-eqb, eq-eqb, eqb-true, eqb-false}
 use Rattle.frame.specs.Frame.{marked, even, crcRight}
-use Rattle.end.specs.declared.Collector.{Collector}
-use Rattle.end.specs.Taking.{completes, placed, counted, collected, accepts}
-use Rattle.endlaws.proofs.Base.{cond-true, cond-false}
+use Rattle.receiver.specs.declared.Collector.{Collector}
+use Rattle.receiver.specs.Receiving.{completes, placed, countWith, collected, accepts}
+use Rattle.laws.proofs.Bools.{cond-true, cond-false}
 use Rattle.endlaws.proofs.Shapes.{placed-length}
 
 unfoldable pub collects : List ℕ → Collector → Collector
@@ -148,7 +148,7 @@ sound-snoc [] s o k m v = absurd (not-suc-le-zero k)
 sound-snoc (x ∷ l) s o k m v = (o .0, o .1, odds-snoc l s (o .2) m v)
 
 -- the collection is emptied, or stays empty
-trace-empty : (ts : List ℕ) (s : ℕ) (c : Collector) → length (c .symbols) ≡ 12 → counted s c ≡ 0
+trace-empty : (ts : List ℕ) (s : ℕ) (c : Collector) → length (c .symbols) ≡ 12 → countWith s c ≡ 0
     → Trace (ts ++ (s ∷ [])) (collected s c)
 trace-empty ts s c h k = record {
   before = ts ++ (s ∷ []);

@@ -16,21 +16,23 @@ use borrow.Author.Tests.{ltb-true, ltb-false, lt-ltb, le-ltb, leb-false}
 use Rattle.frame.specs.declared.reason.Reason.{Reason}
 use Rattle.frame.specs.declared.reason.Reason.the-variants.{Nothing, Accepted, Crc, Marked, Parity}
 use Rattle.frame.specs.Reason.{isAccepted}
-use Rattle.end.specs.declared.Counts.{Counts}
+use Rattle.receiver.specs.declared.Counts.{Counts}
 use Rattle.end.specs.declared.End.{End}
-use Rattle.end.specs.Counting.{noCounts, most, more, tallied, listed}
-use Rattle.end.specs.Good.{above, bad, resetOf}
+use Rattle.receiver.specs.Counting.{noCounts, most, more, tallied, listed}
+use Rattle.laws.specs.Above.{above}
+use Rattle.end.specs.Good.{bad, resetOf}
 use Rattle.end.specs.Taking.{tookOf, taken, takeOf}
 use Rattle.answer.specs.declared.Answer.the-variants.{BadEnd, BadSymbol}
-use Rattle.endlaws.specs.Calls.{Call, after, calls, reached}
+use Rattle.end.specs.Calls.{Call, after, calls, reached}
 use Rattle.endlaws.specs.Counted.{isCrc, isMarked, isEarly, howMany, times, upTo, grown}
 use Rattle.endlaws.specs.Reasons.{reasonsOf, reasons}
-use Rattle.endlaws.specs.Shape.{Shaped}
+use Rattle.end.specs.Shape.{Shaped}
 use Rattle.endlaws.specs.Taken.{acceptances}
-use Rattle.endlaws.proofs.Base.{above-getD}
+use Rattle.laws.proofs.AboveLaws.{above-getD}
 use Rattle.endlaws.proofs.Left.{send-leaves, read-leaves, write-leaves, health-leaves}
 use Rattle.endlaws.proofs.Reasons.{acceptances-reasons}
-use Rattle.endlaws.proofs.Shapes.{reset-shaped, after-shaped}
+use Rattle.end.proofs.Guards.{reset-shaped}
+use Rattle.endlaws.proofs.Shapes.{after-shaped}
 
 -- Stopping
 

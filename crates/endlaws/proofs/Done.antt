@@ -20,10 +20,10 @@ use Rattle.end.specs.declared.Taken.{Taken}
 use Rattle.end.specs.Good.{bad}
 use Rattle.end.specs.Sending.{slotOf, movedOn, symbolAt, sendOf}
 use Rattle.end.specs.Taking.{taken, tookOf, takeOf}
-use Rattle.end.specs.Registers.{outside, readOnly, readOnlyBits, blocked, readEnd, written, withHealth}
-use Rattle.end.specs.Registers.{readOf, writeOf, healthOf}
-use Rattle.endlaws.specs.Calls.{Call, after}
-use Rattle.endlaws.proofs.Base.{cond-true, cond-false, either}
+use Rattle.end.specs.Registers.{outside, readOnly, readOnlyBits, blocked, readEnd, written, withHealth, readOf}
+use Rattle.end.specs.Registers.{writeOf, healthOf}
+use Rattle.end.specs.Calls.{Call, after}
+use Rattle.laws.proofs.Bools.{cond-true, cond-false, either}
 
 pub send-good : (e : End) → bad e ≡ false
     → sendOf e ≡ record { answer = Done; symbol = symbolAt (slotOf e); end = movedOn (slotOf e) }

@@ -16,18 +16,22 @@ use borrow.Author.Tests.{le-ltb, leb-false, eqb-false}
 use Rattle.frame.proofs.FrameLaws.{build-below}
 use Rattle.frame.specs.Frame.{build}
 use Rattle.end.specs.declared.End.{End}
-use Rattle.end.specs.declared.Collector.{Collector}
-use Rattle.end.specs.Good.{above, bad, resetOf}
-use Rattle.end.specs.Presence.{lasting, leftAfter}
+use Rattle.receiver.specs.declared.Collector.{Collector}
+use Rattle.laws.specs.Above.{above}
+use Rattle.end.specs.Good.{bad, resetOf}
+use Rattle.receiver.specs.Presence.{lasting, leftAfter}
 use Rattle.end.specs.Sending.{frameStart, started, slotOf, movedOn}
-use Rattle.end.specs.Taking.{placed, counted, accepts, taken}
+use Rattle.receiver.specs.Receiving.{placed, countWith, accepts}
+use Rattle.end.specs.Taking.{taken}
 use Rattle.end.specs.Registers.{written}
 pub use Rattle.end.proofs.Laws.{Limits, Good, good}
-use Rattle.endlaws.specs.Calls.{Call, after, calls, reached}
-use Rattle.endlaws.specs.Shape.{Shaped}
-use Rattle.endlaws.proofs.Base.{either, or-none, above-from, above-set}
+use Rattle.end.specs.Calls.{Call, after, calls, reached}
+use Rattle.end.specs.Shape.{Shaped}
+use Rattle.laws.proofs.Bools.{either, or-none}
+use Rattle.laws.proofs.AboveLaws.{above-from, above-set}
 use Rattle.endlaws.proofs.Done.{after-keeps}
-use Rattle.endlaws.proofs.Shapes.{placed-keeps, counted-keeps, entersNow, reset-shaped, after-shaped}
+use Rattle.endlaws.proofs.Shapes.{placed-keeps, counted-keeps, entersNow, after-shaped}
+use Rattle.end.proofs.Guards.{reset-shaped}
 
 pub good-not : (e : End) → Good e → bad e ≡ false
 unfolding bad
@@ -39,7 +43,7 @@ good-not e g =
     (or-none _ _ (le-ltb _ _ (g .health))
     (or-none _ _ (le-ltb _ _ (g .loaded))
     (or-none _ _ (le-ltb _ _ (g .partner)) (or-none _ _ (le-ltb _ _ (g .number))
-    (or-none _ _ (le-ltb _ _ (g .got)) (le-ltb _ _ (g .presence))))))))))
+    (or-none _ _ (le-ltb _ _ (g .number-in)) (le-ltb _ _ (g .presence))))))))))
 
 pub reset-good : bad resetOf ≡ false
 unfolding bad above
@@ -60,7 +64,7 @@ unfolding frameStart
 start-good true e g = search built-below
 start-good false e g = g
 
-counted-below : (s : ℕ) (c : Collector) → c .count ≤ 11 → counted s c ≤ 11
+counted-below : (s : ℕ) (c : Collector) → c .count ≤ 11 → countWith s c ≤ 11
 counted-below s c h = counted-keeps (λ (n : ℕ). n ≤ 11) s c (omega arith) (omega arith) (λ n. omega arith)
 
 pub placed-below : (s : ℕ) (c : Collector) → above 511 (c .symbols) ≡ false → above 511 (placed s c) ≡ false
@@ -86,7 +90,7 @@ taken-good s e g =
     (λ _. four-below (getD (placed s (e .collector)) 0 0)) (λ _. g .partner) in
     let got =
     either (λ (n : ℕ). n ≤ 15) (entersNow s e) _ (e .inbox .number)
-    (λ _. sixteen-below (getD (placed s (e .collector)) 1 0)) (λ _. g .got) in
+    (λ _. sixteen-below (getD (placed s (e .collector)) 1 0)) (λ _. g .number-in) in
     search (counted-below, placed-below, left-below)
 
 written-good : (e : End) (r v : ℕ) → Good e → Good (written e r v)

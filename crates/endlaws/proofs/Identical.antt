@@ -5,7 +5,7 @@
 -- Assumes nothing.
 use Prim.Native.Nat.{ℕ, zero, suc}
 use mathlib.Core.Path.{_≡_, refl, sym, ap, _∙_}
-use Rattle.frame.proofs.Identical.{Identical}
+use Rattle.laws.specs.Identical.{Identical}
 use Rattle.end.proofs.End.reset.Reads as reset
 use Rattle.end.proofs.End.send.Reads as send
 use Rattle.end.proofs.End.take.Reads as take
@@ -16,7 +16,9 @@ use Rattle.end.proofs.End.present.Reads as present
 use Rattle.answer.proofs.number.Reads as number
 use Rattle.answer.specs.Number.{numberOf}
 use Rattle.answer.specs.declared.Answer.{Answer}
-use Rattle.answer.specs.declared.Answer.the-variants.{Done, BadEnd, NoRegister, ReadOnly, Blocked, BadSymbol, BadHealth, BadLength, NothingFound, NotAcceptable, ReadOnlyBits, BadRecord}
+use Rattle.answer.specs.declared.Answer.the-variants.{Done, BadEnd, NoRegister, ReadOnly, Blocked, BadSymbol}
+use Rattle.answer.specs.declared.Answer.the-variants.{BadHealth, BadLength, NothingFound, NotAcceptable, ReadOnlyBits}
+use Rattle.answer.specs.declared.Answer.the-variants.{BadRecord}
 
 pub reset-identical : Identical reset.Post
 reset-identical κs a x y s e f = e ∙ sym f

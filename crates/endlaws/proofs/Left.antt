@@ -5,13 +5,13 @@ use mathlib.Core.Bool.{Bool, true, false, not, _&&_, _||_, true≢false}
 use mathlib.Core.Path.{_≡_, refl, sym, _∙_}
 use lib.Dec.{eqb}
 use borrow.Author.Tests.{eq-eqb, eqb-true, ne-eqb}
-use Rattle.frame.specs.Bits.{odd}
+use Rattle.crc.specs.Bits.{odd}
 use Rattle.end.specs.declared.End.{End}
 use Rattle.end.specs.Sending.{sendOf}
 use Rattle.end.specs.Taking.{taken, takeOf}
 use Rattle.end.specs.Registers.{blocked, written, readOf, writeOf, healthOf}
 use Rattle.endlaws.specs.Leaves.{SendLeaves, TakeLeaves, ReadLeaves, WriteLeaves, HealthLeaves}
-use Rattle.endlaws.proofs.Base.{cond-true, cond-false, cond-same}
+use Rattle.laws.proofs.Bools.{cond-true, cond-false, cond-same}
 use Rattle.endlaws.proofs.Done.{send-case, take-case, read-case, write-case, health-case}
 
 pub send-leaves : (e : End) → SendLeaves e (sendOf e .end)

@@ -1,6 +1,3 @@
-pub mod Base
-pub mod Decide
-pub mod Stretch
 pub mod Done
 pub mod Shapes
 pub mod Goods
@@ -14,4 +11,4 @@ pub mod Reasons
 pub mod Counted
 pub mod Apart
 pub mod Presence
-pub mod Through
+pub mod Around

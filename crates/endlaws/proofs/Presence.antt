@@ -25,13 +25,14 @@ use Rattle.frame.specs.Frame.{marked, even, acceptable}
 use Rattle.end.specs.declared.End.{End}
 use Rattle.end.specs.declared.Taken.{Taken}
 use Rattle.end.specs.Good.{bad, resetOf, presentOf}
-use Rattle.end.specs.Presence.{lasting, leftAfter}
-use Rattle.end.specs.Taking.{accepts, taken, takeOf}
-use Rattle.endlaws.specs.Calls.{Call, after, calls, reached}
+use Rattle.receiver.specs.Presence.{lasting, leftAfter}
+use Rattle.receiver.specs.Receiving.{accepts}
+use Rattle.end.specs.Taking.{taken, takeOf}
+use Rattle.end.specs.Calls.{Call, after, calls, reached}
 use Rattle.endlaws.specs.Presence.{lapses, FrameWithin, Steady}
 use Rattle.endlaws.specs.Taken.{takenBy, takes, lastOf, lastTwelve, acceptedBy, acceptances, some}
 use Rattle.endlaws.proofs.Accepted.{acceptable-sound, last-at, reached-accepts}
-use Rattle.endlaws.proofs.Base.{or-cases, no-if}
+use Rattle.laws.proofs.Bools.{or-cases, no-if}
 use Rattle.endlaws.proofs.Done.{take-good, take-above}
 use Rattle.endlaws.proofs.Goods.{good, left-below, after-good, calls-good, reset-good, reached-good}
 use Rattle.endlaws.proofs.Left.{send-leaves, read-leaves, write-leaves, health-leaves}

@@ -23,13 +23,15 @@ use Rattle.frame.specs.Check.{someAbove, rightAt}
 use Rattle.frame.specs.Frame.{marked, even, crcRight}
 use Rattle.frame.specs.Reason.{isAccepted, checkedOf, Looked, RightBelow, Because}
 use Rattle.frame.proofs.ReasonLaws.{reason-exactly}
-use Rattle.end.specs.declared.Collector.{Collector}
+use Rattle.receiver.specs.declared.Collector.{Collector}
+use Rattle.laws.specs.Above.{above}
 use Rattle.end.specs.declared.End.{End}
 use Rattle.end.specs.declared.Taken.{Taken}
 use Rattle.end.specs.Good.{bad, resetOf}
-use Rattle.end.specs.Taking.{placed, accepts, reasonBy, takeOf}
-use Rattle.end.proofs.Laws.{accepts-reason}
-use Rattle.endlaws.specs.Calls.{Call, after, reached}
+use Rattle.receiver.specs.Receiving.{placed, accepts, reasonBy}
+use Rattle.end.specs.Taking.{takeOf}
+use Rattle.receiver.proofs.Laws.{accepts-reason}
+use Rattle.end.specs.Calls.{Call, after, reached}
 use Rattle.endlaws.specs.Reasons.{Plain, Ended, reasonsOf, reasons, collection}
 use Rattle.endlaws.specs.Rows.{Met}
 use Rattle.endlaws.specs.Taken.{takes, acceptedBy, acceptances}
@@ -160,17 +162,17 @@ unmarked-above : (x : ℕ) (b : Bool) → marked x ≡ false → (ltb 1023 x || 
 unmarked-above x b h = let k = leb-false 512 x h in rw (le-ltb 1023 x (omega arith))
 
 odds-above : (l q : List ℕ) → Odds l → someAbove (l ++ q) ≡ someAbove q
-unfolding someAbove
+unfolding above
 odds-above [] q o = refl
 odds-above (x ∷ l) q o = unmarked-above x (someAbove (l ++ q)) (o .0) ∙ odds-above l q (o .2)
 
 sound-above : (p q : List ℕ) → Sound p → someAbove (p ++ q) ≡ someAbove q
-unfolding someAbove
+unfolding above
 sound-above [] q o = refl
 sound-above (x ∷ l) q o = unmarked-above x (someAbove (l ++ q)) (o .0) ∙ odds-above l q (o .2)
 
 none-above : (s : ℕ) (q : List ℕ) → s ≤ 1023 → someAbove q ≡ false → someAbove (s ∷ q) ≡ false
-unfolding someAbove
+unfolding above
 none-above s q h a = rw (le-ltb 1023 s h, a)
 
 -- A collection that holds a frame's beginning p, the symbol s, and whatever comes

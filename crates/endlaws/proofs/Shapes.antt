@@ -1,5 +1,5 @@
 -- Every call keeps the shape of an end.
---   reset-shaped, after-shaped   the end after reset has it, and each call keeps it
+--   after-shaped                 each call keeps it (the end after reset has it: crate end, reset-shaped)
 --   placed-keeps, placed-length  what storing a received symbol keeps
 --   counted-keeps                what counting it keeps
 --   tallied-below                counts of sixteen bits stay such
@@ -12,27 +12,25 @@ use native.Mathlib.Omega.{arith}
 use lib.Dec.{eqb, ltb}
 use lib.ListN.{length, getD, set, take, drop, length-set, length-take, length-drop, length-map}
 use borrow.Author.Tests.{eqb-false, ltb-true}
-use Rattle.frame.proofs.FrameLaws.{build-length}
+use Rattle.frame.proofs.FrameLaws.{build-length, above-data}
 use Rattle.frame.specs.Frame.{dataOf, marked, even}
 use Rattle.frame.specs.declared.reason.Reason.{Reason}
 use Rattle.frame.specs.declared.reason.Reason.the-variants.{Nothing, Accepted, Crc, Marked, Parity}
 use Rattle.end.specs.declared.End.{End}
-use Rattle.end.specs.declared.Collector.{Collector}
-use Rattle.end.specs.declared.Counts.{Counts}
-use Rattle.end.specs.declared.Inbox.{Inbox}
-use Rattle.end.specs.Counting.{most, more, tallied, listed}
-use Rattle.end.specs.Good.{above, resetOf}
+use Rattle.receiver.specs.declared.Collector.{Collector}
+use Rattle.receiver.specs.declared.Counts.{Counts}
+use Rattle.receiver.specs.declared.Inbox.{Inbox}
+use Rattle.receiver.specs.Counting.{most, more, tallied, listed}
+use Rattle.laws.specs.Above.{above}
 use Rattle.end.specs.Sending.{tenBytes, frameStart, started}
-use Rattle.end.specs.Taking.{placed, counted, saidBy, settled, accepts, reasonBy, enters, entered, taken}
+use Rattle.receiver.specs.Receiving.{placed, countWith, saidBy, accepts, reasonBy, enters, entered}
+use Rattle.end.specs.Taking.{settled, taken}
 use Rattle.end.specs.Registers.{written}
-use Rattle.endlaws.specs.Calls.{Call, after}
-use Rattle.endlaws.specs.Shape.{Shaped}
-use Rattle.endlaws.proofs.Base.{either, above-getD, above-set, above-data}
+use Rattle.end.specs.Calls.{Call, after}
+use Rattle.end.specs.Shape.{Shaped}
+use Rattle.laws.proofs.Bools.{either}
+use Rattle.laws.proofs.AboveLaws.{above-getD, above-set}
 use Rattle.endlaws.proofs.Done.{after-keeps}
-
-pub reset-shaped : Shaped resetOf
-unfolding above
-reset-shaped = search
 
 -- symbols 2 to 9 of twelve are eight bytes
 eight : (l : List ℕ) → length l ≡ 12 → length (map dataOf (take 8 (drop 2 l))) ≡ 8
@@ -60,7 +58,7 @@ placed-keeps P s c p q =
 
 -- a property of the count that emptying, starting and adding keep
 pub counted-keeps : (P : ℕ → Type 0) (s : ℕ) (c : Collector) → P 0 → P 1 → (¬ (c .count ≡ 11) → P (c .count + 1))
-    → P (counted s c)
+    → P (countWith s c)
 counted-keeps P s c none one more =
     either P (marked s) _ _ (λ _. none)
     (λ _. either P (even s) _ _ (λ _. one)

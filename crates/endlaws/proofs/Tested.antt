@@ -2,38 +2,38 @@
 --   met, outside-row, received-row, read-only-row, pending-row   rows 1, 2, 3, 10 and 4
 --   above-row                                                    rows 5 and 6: a number above a limit
 -- Assumes nothing.
-use Prim.Native.Nat.{ℕ, suc, _+_, _<_, _≤_, _/_, _%_}
-use mathlib.Core.Bool.{Bool, true, false, not, _||_, true≢false, false≢true}
-use mathlib.Core.List.{List, [], _∷_}
+use Prim.Native.Nat.{ℕ, _+_, _<_, _≤_, _/_, _%_}
+use mathlib.Core.Bool.{Bool, true, false, not, _||_, true≢false}
+use mathlib.Core.List.{List}
 use mathlib.Core.Logic.{_⊎_, inl, inr, ⊎-elim}
 use mathlib.Core.Path.{_≡_, refl, sym, _∙_, subst}
 use native.Mathlib.Omega.{arith}
 use lib.Dec.{eqb, ltb}
 use lib.ListN.{getD}
 use borrow.Author.Tests.{ltb-true, ltb-false, leb-true, leb-false, eqb-true, eqb-false}
-use Rattle.frame.specs.Bits.{odd}
+use Rattle.crc.specs.Bits.{odd}
 use Rattle.end.specs.declared.End.{End}
-use Rattle.end.specs.Good.{above, bad}
+use Rattle.laws.specs.Above.{above}
+use Rattle.end.specs.Good.{bad}
 use Rattle.end.specs.Registers.{outside, readOnly, readOnlyBits, blocked}
 use Rattle.endlaws.specs.Rows.{Met, Outside, Received, ReadOnlyBit, SetsReadOnly, Pending}
-use Rattle.endlaws.proofs.Base.{above-getD, or-cases}
-use Rattle.endlaws.proofs.Decide.{Decides, decides-or, decides-and}
+use Rattle.laws.proofs.AboveLaws.{above-getD, above-some}
+use Rattle.laws.proofs.Bools.{or-cases}
+use Rattle.laws.proofs.Decide.{Decides, decides-or, decides-and}
 use Rattle.endlaws.proofs.Goods.{good}
-use Rattle.endlaws.proofs.Stretch.{Bit, stretch-row}
+use Rattle.laws.proofs.Stretch.{Bit, stretch-row}
 
-above-some : {C : Type 0} (b : ℕ) (l : List ℕ) → ((i : ℕ) → b < getD l i 0 → C) → above b l ≡ true → C
-unfolding above
-above-some b [] f h = absurd (false≢true h)
-above-some b (x ∷ l) f h =
-    or-cases (ltb b x) (above b l) (λ t. f 0 (ltb-true b x t)) (above-some b l (λ i k. f (suc i) k)) h
+-- a stored symbol above 511 stands somewhere
+some-at : {C : Type 0} (l : List ℕ) → ((i : ℕ) → 511 < getD l i 0 → C) → above 511 l ≡ true → C
+some-at l f h = let (i, _, k) = above-some 511 l h in f i k
 
 met-holds : (e : End) → bad e ≡ true → Met e
 unfolding bad
 met-holds e =
     or-cases _ _ (λ t. Met.position (ltb-true _ _ t))
     (or-cases _ _ (λ t. Met.count (ltb-true _ _ t))
-    (or-cases _ _ (above-some 511 _ Met.sending)
-    (or-cases _ _ (above-some 511 _ Met.collecting)
+    (or-cases _ _ (some-at _ Met.sending)
+    (or-cases _ _ (some-at _ Met.collecting)
     (or-cases _ _ (λ t. Met.health (ltb-true _ _ t))
     (or-cases _ _ (λ t. Met.loaded (ltb-true _ _ t))
     (or-cases _ _ (λ t. Met.partner (ltb-true _ _ t))
@@ -52,7 +52,7 @@ met-fails e h (Met.health k) = above-not k (good e h .health)
 met-fails e h (Met.loaded k) = above-not k (good e h .loaded)
 met-fails e h (Met.partner k) = above-not k (good e h .partner)
 met-fails e h (Met.number k) = above-not k (good e h .number)
-met-fails e h (Met.received k) = above-not k (good e h .got)
+met-fails e h (Met.received k) = above-not k (good e h .number-in)
 met-fails e h (Met.presence k) = above-not k (good e h .presence)
 
 pub met : (e : End) → Decides (bad e) (Met e)

@@ -12,7 +12,7 @@ use lib.Dec.{ltb}
 use Rattle.frame.specs.declared.reason.Reason.{Reason}
 use Rattle.frame.specs.declared.reason.Reason.the-variants.{Nothing, Accepted, Crc, Marked, Parity}
 use Rattle.frame.specs.Reason.{isAccepted}
-use Rattle.end.specs.declared.Counts.{Counts}
+use Rattle.receiver.specs.declared.Counts.{Counts}
 
 abbrev pub isCrc : Reason → Bool
 isCrc Nothing = false

@@ -1,5 +1,3 @@
-pub mod Calls
-pub mod Shape
 pub mod Rows
 pub mod Taken
 pub mod Reasons

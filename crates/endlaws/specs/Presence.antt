@@ -15,10 +15,10 @@ use lib.ListN.{length}
 use Rattle.answer.specs.Number.{numberOf}
 use Rattle.frame.specs.Frame.{marked, acceptable}
 use Rattle.frame.specs.Reason.{isAccepted}
-use Rattle.end.specs.declared.Counts.{Counts}
+use Rattle.receiver.specs.declared.Counts.{Counts}
 use Rattle.end.specs.declared.End.{End}
 use Rattle.end.specs.declared.Taken.{Taken}
-use Rattle.end.specs.Presence.{leftAfter}
+use Rattle.receiver.specs.Presence.{leftAfter}
 
 abbrev pub leftBy : Taken → ℕ → ℕ
 leftBy t n = cond (eqb (numberOf (t .answer)) 0) (leftAfter (isAccepted (t .reason)) n) n

@@ -17,10 +17,10 @@ use lib.ListN.{set}
 use Rattle.frame.specs.declared.reason.Reason.{Reason}
 use Rattle.frame.specs.declared.reason.Reason.the-variants.{Nothing, Accepted, Crc, Marked, Parity}
 use Rattle.frame.specs.Frame.{marked, even, crcRight}
-use Rattle.end.specs.declared.Collector.{Collector}
+use Rattle.receiver.specs.declared.Collector.{Collector}
 use Rattle.end.specs.declared.End.{End}
 use Rattle.end.specs.Taking.{takeOf}
-use Rattle.endlaws.specs.Calls.{Call, after, reached}
+use Rattle.end.specs.Calls.{Call, after, reached}
 use Rattle.endlaws.specs.Taken.{takes, lastOf}
 
 abbrev pub Plain : ℕ → Type 0

@@ -12,8 +12,8 @@ use lib.Dec.{leb}
 use lib.ListN.{length, drop, replicate}
 use Rattle.end.specs.declared.End.{End}
 use Rattle.end.specs.Good.{bad}
-use Rattle.end.specs.Taking.{accepts}
-use Rattle.endlaws.specs.Calls.{Call, after}
+use Rattle.receiver.specs.Receiving.{accepts}
+use Rattle.end.specs.Calls.{Call, after}
 
 abbrev pub takenBy : Call → List ℕ
 takenBy Call.send = []

@@ -8,19 +8,20 @@ use mathlib.Core.Logic.{inl, inr}
 use mathlib.Core.Path.{_≡_, refl}
 use lib.Dec.{ltb}
 use lib.ListN.{replicate}
-use Rattle.frame.specs.Bits.{odd, bits, number, oddOnes}
-use Rattle.frame.specs.Crc.{plus, times, shift, run, crc}
+use Rattle.crc.specs.Bits.{odd, bits, number, oddOnes}
+use Rattle.crc.specs.Crc.{plus, times, shift, run, crc}
 use Rattle.frame.specs.Frame.{generator, stream, crcOf, even, evenSymbol, oddSymbol, symbols, build, crcRight}
 use Rattle.frame.specs.declared.reason.Reason.{Reason}
 use Rattle.frame.specs.declared.reason.Reason.the-variants.{Nothing, Accepted, Crc, Marked, Parity}
 use Rattle.frame.specs.Reason.{reasonNumber, placeOf}
 use Rattle.end.specs.declared.End.{End}
-use Rattle.end.specs.Counting.{noCounts, tallied, listed}
-use Rattle.end.specs.Good.{above, bad, resetOf}
+use Rattle.receiver.specs.Counting.{noCounts, tallied, listed}
+use Rattle.laws.specs.Above.{above}
+use Rattle.end.specs.Good.{bad, resetOf}
 use Rattle.end.specs.Sending.{acked, frameStart, sendOf}
 use Rattle.end.specs.Taking.{taken, takeOf}
 use Rattle.end.specs.Registers.{readOf}
-use Rattle.endlaws.specs.Calls.{Call, calls, reached}
+use Rattle.end.specs.Calls.{Call, calls, reached}
 use Rattle.endlaws.specs.Counted.{howMany, grown}
 use Rattle.endlaws.specs.Presence.{lapses, Steady}
 use Rattle.endlaws.specs.Reasons.{reasons}

@@ -16,7 +16,8 @@ use Rattle.answer.specs.Number.{numberOf}
 use Rattle.answer.specs.declared.Answer.the-variants.{NothingFound}
 use Rattle.frame.specs.Check.{someAbove}
 use Rattle.frame.proofs.AcceptLaws.{acceptable-length}
-use Rattle.frame.proofs.CheckLaws.{or-left, or-right, pick, pick-7, pick-5, pick-none, pick-0}
+use Rattle.laws.proofs.Bools.{or-no, or-no}
+use Rattle.frame.proofs.CheckLaws.{pick, pick-7, pick-5, pick-none, pick-0}
 use Rattle.finder.specs.Finder.{limit, passes, somewhere, firstPlace, answerOf, done, findOf, stretchOf}
 use Rattle.finder.specs.declared.Found.{Found}
 
@@ -84,8 +85,8 @@ nowhere-from (s ∷ l) h = rw (h 0) (nowhere-from l (λ k. h (suc k)))
 pub nowhere-at : (l : List ℕ) → somewhere l ≡ false → (k : ℕ) → passes l k ≡ false
 unfolding somewhere
 nowhere-at [] e k = passes-short [] k (omega arith)
-nowhere-at (s ∷ l) e zero = or-left (passes (s ∷ l) 0) (somewhere l) e
-nowhere-at (s ∷ l) e (suc k) = nowhere-at l (or-right (passes (s ∷ l) 0) (somewhere l) e) k
+nowhere-at (s ∷ l) e zero = or-no (passes (s ∷ l) 0) (somewhere l) e .0
+nowhere-at (s ∷ l) e (suc k) = nowhere-at l (or-no (passes (s ∷ l) 0) (somewhere l) e .1) k
 
 -- ---------------------------------------------------------------- the rows
 

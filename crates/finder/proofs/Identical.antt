@@ -3,7 +3,7 @@
 -- tell it. `Post` is the contract as it stands in the source. Assumes nothing.
 use mathlib.Core.Path.{_≡_, sym, _∙_}
 use denote.Ref.{RefT}
-use Rattle.frame.proofs.Identical.{Identical}
+use Rattle.laws.specs.Identical.{Identical}
 use Rattle.finder.proofs.find.Reads as find
 use Rattle.finder.proofs.place.Reads as place
 

@@ -15,15 +15,16 @@ use lib.Dec.{eqb, ltb, lit<}
 use lib.ListN.{length, take, drop, set, getD, length-set, length-take, length-drop, drop-of-length-le}
 use lib.Seq.{drop-cons, getD-set-same, drop-set-lt, getD-take, getD-drop}
 use Rattle.answer.specs.declared.Answer.the-variants.{Done, BadSymbol, BadLength, NothingFound}
-use Rattle.frame.specs.Bits.{bits, oddOnes}
+use Rattle.crc.specs.Bits.{bits, oddOnes}
 use Rattle.frame.specs.Check.{someAbove, rightAt}
 use Rattle.frame.specs.Frame.{marked, crcRight}
-use Rattle.frame.proofs.AcceptLaws.{and-both}
+use Rattle.laws.proofs.Bools.{and-both}
 use Rattle.frame.proofs.RightLaws.{rightFrom, acceptable-right, right-marked, right-first, right-other, right-behind}
 use Rattle.frame.proofs.RightLaws.{right-starts-none, right-at, right-more, right-end}
 use Rattle.finder.specs.Finder.{limit, passes, answerOf, done, findOf}
 use Rattle.finder.specs.Search.{ruledOut}
-use Rattle.finder.proofs.FinderLaws.{NoneBefore, passes-length, passes-not, passes-short, first-is, nowhere-from}
+use Rattle.finder.proofs.FinderLaws.{NoneBefore, passes-length, passes-not, passes-short, first-is}
+use Rattle.finder.proofs.FinderLaws.{nowhere-from}
 
 -- the twelve symbols of l at a place
 abbrev pub window : List ℕ → ℕ → List ℕ

@@ -3,22 +3,19 @@
 use Prim.Native.Nat.{ℕ, zero, suc, _+_, _*_, _/_, _%_, _≤_, _<_}
 use native.Mathlib.Nat.{le-of-suc-le-suc}
 use native.Mathlib.Omega.{arith}
-use mathlib.Core.Bool.{Bool, true, false, not, xor, _&&_, true≢false, cond, Bool·not-not}
+use mathlib.Core.Bool.{Bool, true, false, not, xor, true≢false, cond, Bool·not-not}
 use mathlib.Core.List.{List, [], _∷_, _++_, map}
 use mathlib.Core.Path.{_≡_, refl, ap, ap₂, sym, _∙_}
 use borrow.Author.Tests.{eqb-true, leb-false, lt-leb, not-true}
 use lib.Dec.{eqb, lit<, lit≤}
 use lib.ListN.{length, take, drop, getD, length-map, take-append-drop, drop-of-length-le}
 use lib.Seq.{drop-cons}
-use Rattle.frame.specs.Bits.{odd, bits, number, oddOnes}
+use Rattle.laws.proofs.Bools.{and-both}
+use Rattle.crc.specs.Bits.{odd, bits, number, oddOnes}
 use Rattle.frame.specs.Frame.{crcOf, dataOf, marked, even, evenSymbol, oddSymbol, symbols, build, crcRight}
 use Rattle.frame.specs.Frame.{noneMarked, allOdd, paritiesRight, acceptable}
-use Rattle.frame.proofs.BitsLaws.{xor-false, number-bits, bits-mod, oddOnes-append}
+use Rattle.crc.proofs.BitsLaws.{xor-false, number-bits, bits-mod, oddOnes-append}
 use Rattle.frame.proofs.FrameLaws.{data-at, crcBytes, build-symbols}
-
-pub and-both : (a b : Bool) → (a && b) ≡ true → (a ≡ true) × (b ≡ true)
-and-both true b e = (refl, e)
-and-both false b e = absurd (true≢false (sym e))
 
 -- ---------------------------------------------------------------- the parts of acceptance
 

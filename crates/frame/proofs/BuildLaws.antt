@@ -8,7 +8,7 @@ use lib.Dec.{eqb, lit<, lit≤}
 use lib.ListN.{length, take, drop, set, getD, replicate, length-set, List·getD-append}
 use lib.Seq.{take-at, take-all, getD-append-add}
 use Rattle.frame.specs.Frame.{crcOf, dataOf, evenSymbol, oddSymbol, symbols, build, crcRight}
-use Rattle.frame.proofs.FillLaws.{fill-map, fill-map-end}
+use Rattle.laws.proofs.Lists.{fill-map, fill-map-end}
 use Rattle.frame.proofs.FrameLaws.{crcOf-below, crcBytes, build-symbols, with-crc-length}
 
 -- the first i symbols of s, and the odd symbols of what is left of the bytes and their CRC, are the frame

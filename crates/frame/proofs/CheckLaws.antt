@@ -1,16 +1,15 @@
 -- Laws of Check.antt: what `someAbove` says of each symbol, and the answer table's rows for the frame check, each
 -- "exactly when". `pick` and its rows serve the finder too. Assumes nothing.
-use Prim.Native.Nat.{ℕ, zero, suc, _+_, _≤_, _<_}
-use native.Mathlib.Numerals.{add-one}
+use Prim.Native.Nat.{ℕ, _<_}
 use native.Mathlib.Omega.{arith}
-use mathlib.Core.Bool.{Bool, true, false, _||_, cond, true≢false, or-true, or-false}
-use mathlib.Core.List.{List, [], _∷_}
+use mathlib.Core.Bool.{Bool, true, false, cond, true≢false}
+use mathlib.Core.List.{List}
 use mathlib.Core.Logic.{_↔_, _≢_}
 use mathlib.Core.Path.{_≡_, refl, sym}
-use borrow.Author.Tests.{eqb-true, eqb-false, eq-eqb, ne-eqb, ltb-true, ltb-false, lt-ltb, le-ltb}
-use lib.Dec.{eqb, ltb, lit<}
-use lib.ListN.{length, drop, getD, drop-of-length-le}
-use lib.Seq.{drop-cons}
+use borrow.Author.Tests.{eqb-true, eqb-false, eq-eqb, ne-eqb}
+use lib.Dec.{eqb, lit<}
+use lib.ListN.{length}
+use Rattle.laws.proofs.AboveLaws.{above-from}
 use Rattle.answer.specs.Number.{numberOf}
 use Rattle.answer.specs.declared.Answer.{Answer}
 use Rattle.answer.specs.declared.Answer.the-variants.{Done, BadSymbol, BadLength, NotAcceptable}
@@ -20,55 +19,8 @@ use Rattle.frame.proofs.AcceptLaws.{acceptable-length, acceptable-below
 
 -- ---------------------------------------------------------------- numbers above the largest symbol
 
-pub or-left : (a b : Bool) → (a || b) ≡ false → a ≡ false
-or-left true b e = e
-or-left false b e = refl
-
-pub or-right : (a b : Bool) → (a || b) ≡ false → b ≡ false
-or-right true b e = absurd (true≢false e)
-or-right false b e = e
-
-pub above-none : (l : List ℕ) (i : ℕ) → someAbove l ≡ false → getD l i 0 ≤ largest
-unfolding someAbove
-above-none [] i e = omega arith
-above-none (s ∷ l) zero e = ltb-false largest s (or-left (ltb largest s) (someAbove l) e)
-above-none (s ∷ l) (suc i) e = above-none l i (or-right (ltb largest s) (someAbove l) e)
-
-pub above-some : (l : List ℕ) → someAbove l ≡ true → (i : ℕ) × (i < length l) × (largest < getD l i 0)
-unfolding someAbove
-above-some [] e = absurd (true≢false (sym e))
-above-some (s ∷ l) e = go (ltb largest s) refl (above-some l) e
-  where
-    go : (b : Bool) → ltb largest s ≡ b → (someAbove l ≡ true → (i : ℕ) × (i < length l) × (largest < getD l i 0))
-        → (b || someAbove l) ≡ true
-        → (i : ℕ) × (i < length (s ∷ l)) × (largest < getD (s ∷ l) i 0)
-    go true t r f = (zero, omega arith, ltb-true largest s t)
-    go false t r f = let (i, h, k) = r f in (suc i, omega arith, k)
-
-pub above-from : (l : List ℕ) → ((i : ℕ) → getD l i 0 ≤ largest) → someAbove l ≡ false
-unfolding someAbove
-above-from [] h = refl
-above-from (s ∷ l) h = rw (le-ltb largest s (h 0)) (above-from l (λ i. h (suc i)))
-
 pub acceptable-above : (s : List ℕ) → acceptable s ≡ true → someAbove s ≡ false
-acceptable-above s e = above-from s (λ i. omega (arith, acceptable-below s e i))
-
--- ---------------------------------------------------------------- a look at each from the front
-
--- a: one of those before place i is above; the whole is this, or one from i on
-module _ (l : List ℕ) (i : ℕ) (a : Bool) where
-  module _ (h : i < length l) where
-    pub above-here : largest < getD l i 0 → true ≡ (a || someAbove (drop i l))
-    unfolding someAbove
-    above-here k = rw (drop-cons l i 0 h, lt-ltb largest (getD l i 0) k) (sym (or-true a))
-
-    pub above-next : getD l i 0 ≤ largest → (a || someAbove (drop (i + 1) l)) ≡ (a || someAbove (drop i l))
-    unfolding someAbove
-    above-next k = rw (add-one, drop-cons l i 0 h, le-ltb largest (getD l i 0) k)
-
-  pub above-end : length l ≤ i → a ≡ (a || someAbove (drop i l))
-  unfolding someAbove
-  above-end h = rw (drop-of-length-le l h) (sym (or-false a))
+acceptable-above s e = above-from largest s (λ i. omega (arith, acceptable-below s e i))
 
 -- ---------------------------------------------------------------- the rows
 

@@ -11,12 +11,12 @@ use mathlib.Core.Path.{_≡_, refl, ap, ap₂, sym, _∙_}
 use borrow.Author.Tests.{leb-true, leb-false}
 use lib.Dec.{leb, lit≤}
 use lib.ListN.{length, take, getD, replicate}
-use Rattle.frame.specs.Bits.{bits, number, oddOnes}
-use Rattle.frame.specs.Crc.{times, run}
+use Rattle.crc.specs.Bits.{bits, number, oddOnes}
+use Rattle.crc.specs.Crc.{times, run}
 use Rattle.frame.specs.Distance.{wire, distance}
 use Rattle.frame.specs.Frame.{generator, stream, dataOf, even, acceptable}
-use Rattle.frame.proofs.BitsLaws.{xor-comm, xor-self, xor-back, xor-not, not-xor, bits-length, number-bits}
-use Rattle.frame.proofs.CrcLaws.{times-length, run-length, run-append, crc-own, withOne, run-burst}
+use Rattle.crc.proofs.BitsLaws.{xor-comm, xor-self, xor-back, xor-not, not-xor, bits-length, number-bits}
+use Rattle.crc.proofs.CrcLaws.{times-length, run-length, run-append, crc-own, withOne, run-burst}
 use Rattle.frame.proofs.FrameLaws.{generator-length, build-stream}
 use Rattle.frame.proofs.AcceptLaws.{acceptable-length, acceptable-below, acceptable-first, acceptable-rest}
 use Rattle.frame.proofs.AcceptLaws.{acceptable-build, top, nine-bits, even-top}

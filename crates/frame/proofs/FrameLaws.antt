@@ -10,14 +10,15 @@ use borrow.Author.Tests.{eq-eqb, lt-leb}
 use lib.Dec.{lit<}
 use lib.ListN.{length, take, getD, length-append, length-map, List·getD-map, List·getD-append}
 use lib.Seq.{take-at, getD-append-add}
-use Rattle.frame.specs.Bits.{bits, number, oddOnes}
-use Rattle.frame.specs.Crc.{crc}
+use Rattle.laws.specs.Above.{above}
+use Rattle.laws.proofs.AboveLaws.{above-none}
+use Rattle.crc.specs.Bits.{bits, number, oddOnes}
+use Rattle.crc.specs.Crc.{crc}
 use Rattle.frame.specs.Frame.{generator, stream, crcOf, dataOf, even, evenSymbol, oddSymbol, symbols, build}
 use Rattle.frame.specs.Frame.{crcRight, noneMarked, allOdd, paritiesRight, acceptable}
-use Rattle.frame.proofs.BitsLaws.{xor-self, xor-false, xor-not, bits-above, bits-length, bits-number}
-use Rattle.frame.proofs.BitsLaws.{number-bits}
-use Rattle.frame.proofs.BitsLaws.{number-below, number-append, bits-append, bits-mod, oddOnes-append}
-use Rattle.frame.proofs.CrcLaws.{crc-length}
+use Rattle.crc.proofs.BitsLaws.{xor-self, xor-false, xor-not, bits-above, bits-length, bits-number, number-bits}
+use Rattle.crc.proofs.BitsLaws.{number-below, number-append, bits-append, bits-mod, oddOnes-append}
+use Rattle.crc.proofs.CrcLaws.{crc-length}
 
 -- ---------------------------------------------------------------- the CRC of bytes
 
@@ -311,3 +312,10 @@ build-acceptable l e =
       ap paritiesRight (build-symbols l) ∙ symbols-parities (l ++ crcBytes l),
       build-crc l e,
     )
+
+-- ---------------------------------------------------------------- data are bytes
+
+pub above-data : (l : List ℕ) → above 255 (map dataOf l) ≡ false
+unfolding above
+above-data [] = refl
+above-data (x ∷ l) = above-none 255 (dataOf x) (map dataOf l) (omega arith) (above-data l)

@@ -4,6 +4,7 @@
 -- Assumes nothing.
 use Prim.Native.Nat.{ℕ, zero, suc}
 use mathlib.Core.Path.{_≡_, refl, sym, ap₂, _∙_}
+use Rattle.laws.specs.Identical.{Identical}
 use Rattle.frame.specs.declared.reason.Reason.{Reason}
 use Rattle.frame.specs.declared.reason.Reason.the-variants.{Nothing, Accepted, Crc, Marked, Parity}
 use Rattle.frame.specs.Reason.{reasonNumber, placeOf}
@@ -17,10 +18,6 @@ use Rattle.frame.proofs.check.Reads as check
 use Rattle.frame.proofs.reason.number.Reads as number
 use Rattle.frame.proofs.reason.place.Reads as place
 use Rattle.frame.proofs.reason.is_accepted.Reads as is-accepted
-
--- two results that the contract Q allows for the same lifetimes, arguments and parameters at exit are one
-abbrev pub Identical : {K : Type 0} {A R S : K → Type 0} → ((κs : K) → A κs → R κs → S κs → Type 0) → Type 0
-Identical {K} {A} {R} {S} Q = (κs : K) (a : A κs) (x y : R κs) (s : S κs) → Q κs a x s → Q κs a y s → x ≡ y
 
 pub parity-identical : Identical parity.Post
 parity-identical κs a x y s e f = e ∙ sym f

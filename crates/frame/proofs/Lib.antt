@@ -1,13 +1,9 @@
-pub mod BitsLaws
-pub mod CrcLaws
-pub mod LinearLaws
 pub mod WordLaws
 pub mod FrameLaws
 pub mod AcceptLaws
 pub mod DistanceLaws
 pub mod CheckLaws
 pub mod ReasonLaws
-pub mod FillLaws
 pub mod BuildLaws
 pub mod RightLaws
 pub mod Identical

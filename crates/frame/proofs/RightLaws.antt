@@ -12,10 +12,10 @@ use borrow.Author.Tests.{le-leb, lt-leb, ne-eqb}
 use lib.Dec.{eqb, eqb·suc-zero}
 use lib.ListN.{length, drop, getD, drop-of-length-le}
 use lib.Seq.{drop-cons}
-use Rattle.frame.specs.Bits.{bits, oddOnes}
+use Rattle.crc.specs.Bits.{bits, oddOnes}
 use Rattle.frame.specs.Check.{rightAt}
 use Rattle.frame.specs.Frame.{marked, even, crcRight, noneMarked, allOdd, paritiesRight, acceptable}
-use Rattle.frame.proofs.AcceptLaws.{and-both}
+use Rattle.laws.proofs.Bools.{and-both}
 
 -- ---------------------------------------------------------------- one symbol
 

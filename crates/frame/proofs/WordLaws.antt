@@ -19,15 +19,14 @@ use lib.Dec.{lit<, lit≤}
 use lib.ListN.{length, getD, take, drop, replicate, length-append, drop-of-length-le}
 use lib.Pow.{pow-pos}
 use lib.Seq.{take-at, drop-at, drop-cons}
-use Rattle.frame.specs.Bits.{odd, bits, number, oddOnes}
-use Rattle.frame.specs.Crc.{plus, times, shift, run, crc}
+use Rattle.crc.specs.Bits.{odd, bits, number, oddOnes}
+use Rattle.crc.specs.Crc.{plus, times, shift, run, crc}
 use Rattle.frame.specs.Frame.{generator, stream, crcOf}
-use Rattle.frame.proofs.BitsLaws.{xor-assoc, bits-length, number-bits, bits-append, bits-part, bits-mod}
-use Rattle.frame.proofs.BitsLaws.{bits-mod-more, bits-above, bits-up, bits-xor}
-use Rattle.frame.proofs.BitsLaws.{oddOnes-append, oddOnes-above, oddOnes-xor}
-use Rattle.frame.proofs.CrcLaws.{plus-zeros, times-false, times-true}
-use Rattle.frame.proofs.LinearLaws.{Linear, linear-then, copy, linear-copy, linear-and}
-use Rattle.frame.proofs.LinearLaws.{withParity, linear-parity, agree, crc-same}
+use Rattle.crc.proofs.BitsLaws.{xor-assoc, bits-length, number-bits, bits-append, bits-part, bits-mod, bits-mod-more}
+use Rattle.crc.proofs.BitsLaws.{bits-above, bits-up, bits-xor, oddOnes-append, oddOnes-above, oddOnes-xor}
+use Rattle.crc.proofs.CrcLaws.{plus-zeros, times-false, times-true}
+use Rattle.crc.proofs.LinearLaws.{Linear, linear-then, copy, linear-copy, linear-and, withParity, linear-parity}
+use Rattle.crc.proofs.LinearLaws.{agree, crc-same}
 
 abbrev shl : ℕ → ℕ → ℕ
 shl n k = (n * 2 ^ k) % 2 ^ 64

@@ -6,10 +6,11 @@
 --   checkOf l      the answer of the frame check on the list l
 -- Assumes nothing.
 use Prim.Native.Nat.{ℕ}
-use mathlib.Core.Bool.{Bool, false, not, _&&_, _||_, cond}
-use mathlib.Core.List.{List, [], _∷_}
-use lib.Dec.{eqb, ltb}
+use mathlib.Core.Bool.{Bool, not, _&&_, cond}
+use mathlib.Core.List.{List}
+use lib.Dec.{eqb}
 use lib.ListN.{length}
+use Rattle.laws.specs.Above.{above}
 use Rattle.answer.specs.declared.Answer.{Answer}
 use Rattle.answer.specs.declared.Answer.the-variants.{Done, BadSymbol, BadLength, NotAcceptable}
 use Rattle.frame.specs.Frame.{marked, even, acceptable}
@@ -17,9 +18,8 @@ use Rattle.frame.specs.Frame.{marked, even, acceptable}
 abbrev pub largest : ℕ
 largest = 1023
 
-unfoldable pub someAbove : List ℕ → Bool
-someAbove [] = false
-someAbove (s ∷ l) = ltb largest s || someAbove l
+abbrev pub someAbove : List ℕ → Bool
+someAbove l = above largest l
 
 abbrev pub rightParity : ℕ → ℕ → Bool
 rightParity i s = cond (eqb i 0) (even s) (not (even s))

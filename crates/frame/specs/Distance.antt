@@ -5,7 +5,7 @@
 use Prim.Native.Nat.{ℕ, _+_}
 use mathlib.Core.Bool.{Bool, cond, xor}
 use mathlib.Core.List.{List, [], _∷_, _++_}
-use Rattle.frame.specs.Bits.{bits}
+use Rattle.crc.specs.Bits.{bits}
 
 unfoldable pub wire : List ℕ → List Bool
 wire [] = []

@@ -17,8 +17,8 @@ use mathlib.Core.Bool.{Bool, true, false, not, _&&_}
 use mathlib.Core.List.{List, [], _∷_, _++_, map}
 use lib.Dec.{eqb, leb}
 use lib.ListN.{length, take, getD}
-use Rattle.frame.specs.Bits.{bits, number, oddOnes}
-use Rattle.frame.specs.Crc.{crc}
+use Rattle.crc.specs.Bits.{bits, number, oddOnes}
+use Rattle.crc.specs.Crc.{crc}
 
 -- the coefficients of x^15, x^14 .. x^0
 unfoldable pub generator : List Bool

@@ -8,16 +8,17 @@ use mathlib.Core.List.{List, [], _∷_, _++_}
 use mathlib.Core.Path.{_≡_, refl}
 use lib.ListN.{replicate, set}
 use Rattle.answer.specs.Number.{numberOf}
-use Rattle.frame.specs.Bits.{bits, number, oddOnes}
-use Rattle.frame.specs.Check.{someAbove, rightAt, checkOf}
-use Rattle.frame.specs.Crc.{crc}
-use Rattle.frame.specs.Frame.{generator, stream, crcOf, even, evenSymbol, oddSymbol, symbols, build}
-use Rattle.frame.specs.Frame.{crcRight, noneMarked, allOdd, paritiesRight, acceptable}
+use Rattle.crc.specs.Bits.{bits, number, oddOnes}
+use Rattle.frame.specs.Check.{rightAt, checkOf}
+use Rattle.laws.specs.Above.{above}
+use Rattle.crc.specs.Crc.{crc}
+use Rattle.frame.specs.Frame.{generator, stream, crcOf, even, evenSymbol, oddSymbol, symbols, build, crcRight}
+use Rattle.frame.specs.Frame.{noneMarked, allOdd, paritiesRight, acceptable}
 use Rattle.frame.specs.Reason.{reasonNumber, placeOf, faultFrom, reasonOf, whyOf, checkedOf}
 
 checked : List ℕ → ℕ
 unfolding
-    bits number oddOnes crc generator stream crcOf even crcRight noneMarked allOdd paritiesRight acceptable someAbove
+    bits number oddOnes crc generator stream crcOf even crcRight noneMarked allOdd paritiesRight acceptable above
     checkOf
 checked l = numberOf (checkedOf l .answer)
 
@@ -57,7 +58,7 @@ unfolding bits number crc generator stream crcOf
 bb3d = refl
 
 why : List ℕ → ℕ × ℕ
-unfolding bits number oddOnes crc generator stream crcOf even crcRight someAbove rightAt faultFrom reasonOf whyOf
+unfolding bits number oddOnes crc generator stream crcOf even crcRight above rightAt faultFrom reasonOf whyOf
 why l = (reasonNumber (checkedOf l .reason), placeOf (checkedOf l .reason))
 
 p1-accepted : why first ≡ (1, 0)
@@ -109,6 +110,6 @@ eleven : why (replicate 11 0x100) ≡ (0, 0)
 unfolding why
 eleven = refl
 
-above : why (set (set first 0 0x100) 11 0x400) ≡ (0, 0)
+no-symbol : why (set (set first 0 0x100) 11 0x400) ≡ (0, 0)
 unfolding why first
-above = refl
+no-symbol = refl

@@ -1,5 +1,3 @@
-pub mod Bits
-pub mod Crc
 pub mod Frame
 pub mod Distance
 pub mod Check

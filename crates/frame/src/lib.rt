@@ -6,7 +6,7 @@ use answer::Answer;
 use reason::Reason;
 ghost use mathlib.Core.Path.{_≡_};
 ghost use lib.ListN.{length};
-ghost use Rattle.frame.specs.Bits.{bits, oddOnes};
+ghost use Rattle.crc.specs.Bits.{bits, oddOnes};
 ghost use Rattle.frame.specs.Check.{rightAt, someAbove};
 ghost use Rattle.frame.specs.Frame.{crcOf, dataOf, evenSymbol, oddSymbol, build as buildOf, crcRight};
 ghost use Rattle.frame.specs.Reason.{faultAt, reasonOf, checkedOf};

@@ -6,8 +6,8 @@
 // S15, so that a shift to the left lowers it.
 ghost use mathlib.Core.List.{_++_};
 ghost use mathlib.Core.Path.{_≡_};
-ghost use Rattle.frame.specs.Bits.{bits, oddOnes};
-ghost use Rattle.frame.specs.Crc.{crc};
+ghost use Rattle.crc.specs.Bits.{bits, oddOnes};
+ghost use Rattle.crc.specs.Crc.{crc};
 ghost use Rattle.frame.specs.Frame.{generator};
 
 // The second factor: x^15 is bit 0, x is bit 14, 1 is bit 15.

@@ -18,7 +18,7 @@ use lib.Dec.{eqb}
 use lib.ListN.{length, getD, take, set, length-set}
 use lib.Seq.{take-suc, take-suc-set, take-all}
 use borrow.Author.Tests.{eqb-true, eqb-false, ne-eqb}
-use Rattle.protocol.specs.Steps.{placed, counted, completes}
+use Rattle.protocol.specs.Steps.{placed, countWith, completes}
 
 pub record Begins {S : Type 0} (t : List S) (p : ℕ) (l : List S) (n : ℕ) : Type 0 where
   pub place : 0 < n → n ≡ p + 1
@@ -34,7 +34,7 @@ pub record Comes {S : Type 0} (t₀ : List S) (p : ℕ) (t : List S) (q : ℕ) (
   pub count : n ≤ 11
 
 pub marked-begins : {S : Type 0} (t : List S) (q : ℕ) (v : Bool) (s : S) (l : List S) (n : ℕ)
-    → Begins t q (placed true v s l n) (counted true v n)
+    → Begins t q (placed true v s l n) (countWith true v n)
 marked-begins t q v s l n = record { place = λ h. absurd (omega arith); prefix = refl }
 
 -- one more element of t, stored behind the first n of them
@@ -55,7 +55,7 @@ module _ {S : Type 0} (none : S) {t₀ t l : List S} {p q n : ℕ} (c : Comes t�
       add-prefix none l t n (getD t q none) (omega arith) (omega arith)
       (c .before .prefix ∙ ap (λ (t : List S). take n t) (c .same (later e))) (rw (at e z))
 
-  pub sound-begins : (v : Bool) → eqb q 0 ≡ v → Begins t q (placed false v (getD t q none) l n) (counted false v n)
+  pub sound-begins : (v : Bool) → eqb q 0 ≡ v → Begins t q (placed false v (getD t q none) l n) (countWith false v n)
   sound-begins true e = record {
     place = λ h. omega (arith, eqb-true q 0 e);
     prefix = add-prefix none l t 0 (getD t q none) (omega arith) (omega arith) refl (rw (eqb-true q 0 e));
@@ -77,7 +77,7 @@ module _ {S : Type 0} (none : S) {t₀ t l : List S} {p q n : ℕ} (c : Comes t�
       ∙ stored e some
       ∙ take-all (suc n) t (omega arith))
 
-  pub sound-counted : (v : Bool) → eqb q 0 ≡ v → (0 < q → n ≡ q) → counted false v n ≡ (q + 1) % 12
+  pub sound-counted : (v : Bool) → eqb q 0 ≡ v → (0 < q → n ≡ q) → countWith false v n ≡ (q + 1) % 12
   sound-counted true e all = omega (arith, eqb-true q 0 e)
   sound-counted false e all = go (eqb n 0) (eqb n 11) refl refl
     where

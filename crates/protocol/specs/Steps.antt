@@ -8,7 +8,7 @@
 --   releases, settle   settling's test and settling
 --   enters, enter      whether a frame's message enters the receive register, and its entering
 --   emptied            the host has read 3.2317
---   placed, counted    the collection's symbols and count after one more symbol s, marked where m, even where v; the
+--   placed, countWith  the collection's symbols and count after one more symbol s, marked where m, even where v; the
 --                      count was n
 --   completes          that symbol is the twelfth
 -- Assumes nothing.
@@ -83,8 +83,8 @@ emptied i = record { expected = i .expected; acknowledge = i .acknowledge; full 
 abbrev pub placed : {S : Type 0} → Bool → Bool → S → List S → ℕ → List S
 placed m v s l n = cond m l (cond v (set l 0 s) (cond (eqb n 0) l (set l n s)))
 
-abbrev pub counted : Bool → Bool → ℕ → ℕ
-counted m v n = cond m 0 (cond v 1 (cond (eqb n 0) 0 (cond (eqb n 11) 0 (n + 1))))
+abbrev pub countWith : Bool → Bool → ℕ → ℕ
+countWith m v n = cond m 0 (cond v 1 (cond (eqb n 0) 0 (cond (eqb n 11) 0 (n + 1))))
 
 abbrev pub completes : Bool → Bool → ℕ → Bool
 completes m v n = not m && (not v && eqb n 11)

@@ -1,13 +1,13 @@
 // What tests/speed measures: proved calls under plain names, for a Rust or C program to link.
-mod line;
+mod pair;
 
-use line::slots;
+use pair::slots;
 ghost use mathlib.Core.Path.{_≡_};
 ghost use Rattle.answer.specs.Number.{numberOf};
 ghost use Rattle.frame.specs.Check.{checkOf};
 ghost use Rattle.frame.specs.Frame.{crcOf, build};
 ghost use Rattle.finder.specs.Finder.{findOf};
-ghost use Rattle.speed.specs.Line.{start, run};
+ghost use Rattle.speed.specs.Pair.{start, run};
 
 // The CRC of ten bytes.
 #[no_mangle]
@@ -59,6 +59,6 @@ pub extern "C" fn simhadol_place(list: &[u16]) -> usize
 pub extern "C" fn simhadol_slots(count: u32) -> u64
     ensures { λ r. ⌜ r ≡ run count start .sum ⌝ }
 {
-    let line = slots(count);
-    line.sum
+    let pair = slots(count);
+    pair.sum
 }

@@ -1,7 +1,7 @@
 -- `frame::parity` meets its contract: the count of ones is odd where their exclusive or is. Assumes nothing.
 use borrow.Author.Needs.{needs}
-use Rattle.frame.specs.Bits.{odd}
-use Rattle.frame.proofs.BitsLaws.{ones-parity}
+use Rattle.crc.specs.Bits.{odd}
+use Rattle.crc.proofs.BitsLaws.{ones-parity}
 use Rattle.frame.proofs.parity.Statement.{statement}
 use Rattle.frame.proofs.parity.Tie as tie
 

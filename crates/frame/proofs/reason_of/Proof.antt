@@ -11,7 +11,7 @@ use lib.ListN.{length, take, drop, length-set}
 use Rattle.frame.specs.declared.reason.Reason.the-variants.{Accepted, Crc}
 use Rattle.frame.specs.Frame.{crcRight}
 use Rattle.frame.specs.Reason.{faultFrom, reasonOf}
-use Rattle.frame.proofs.FillLaws.{fill-copy, fill-copy-end}
+use Rattle.laws.proofs.Lists.{fill-copy, fill-copy-end}
 use Rattle.frame.proofs.ReasonLaws.{byCrc, fault-here, fault-next, fault-end}
 use Rattle.frame.proofs.reason_of.Statement.{statement}
 use Rattle.frame.proofs.reason_of.Tie as tie

@@ -7,8 +7,8 @@ use mathlib.Core.Path.{_≡_, refl, _∙_}
 use borrow.Author.Needs.{needs}
 use denote.Ref.{now}
 use lib.ListN.{length, drop}
-use Rattle.frame.specs.Check.{someAbove}
-use Rattle.frame.proofs.CheckLaws.{above-here, above-next, above-end}
+use Rattle.frame.specs.Check.{largest, someAbove}
+use Rattle.laws.proofs.AboveLaws.{above-here, above-next, above-end}
 use Rattle.frame.proofs.some_above.Statement.{statement}
 use Rattle.frame.proofs.some_above.Tie as tie
 
@@ -39,14 +39,14 @@ loop-again c =
     let list = now (c .before .before .before .before .args .list) in
     let inside = c .before .before .loop-test .taken in (
       search needs,
-      ⊎-elim (λ w. rw (w .1) (above-here list (at .i) (at .above) inside (w .0 .taken) ∙ at .inv .1))
-          (λ w. rw (w .1) (above-next list (at .i) (at .above) inside (w .0 .left) ∙ at .inv .1)) (c .if1 .came),
+      ⊎-elim (λ w. rw (w .1) (above-here largest list (at .i) (at .above) inside (w .0 .taken) ∙ at .inv .1))
+          (λ w. rw (w .1) (above-next largest list (at .i) (at .above) inside (w .0 .left) ∙ at .inv .1)) (c .if1 .came),
     )
 
 returns : tie.Need-returns Inv-loop μ-loop
 returns c =
     let at = c .before .loop in
-    above-end (now (c .before .before .args .list)) (at .i) (at .above) (c .loop-test .left) ∙ at .inv .1
+    above-end largest (now (c .before .before .args .list)) (at .i) (at .above) (c .loop-test .left) ∙ at .inv .1
 
 pub some-above-spec : {M : Type 1} → statement M
 some-above-spec =

@@ -6,20 +6,21 @@ use native.Mathlib.Omega.{arith}
 use borrow.Author.Needs.{needs}
 use Rattle.end.specs.Good.{bad}
 use Rattle.end.specs.Sending.{sendOf}
-use Rattle.end.proofs.Laws.{cond-true, cond-false, told, good, slot-position}
+use Rattle.laws.proofs.Bools.{cond-true, cond-false, hence}
+use Rattle.end.proofs.Laws.{good, slot-position}
 use Rattle.end.proofs.End.send.Statement.{statement}
 use Rattle.end.proofs.End.send.Tie as tie
 
 -- past the first test the end is one that answer 1 does not meet
 fine : (c : tie.Else1) → bad (c .before .before .args .self) ≡ false
-fine c = told (c .before .bad .ensures) (c .if1 .left)
+fine c = hence (c .before .bad .ensures) (c .if1 .left)
 
 bad-requires : tie.Need-bad-requires
 bad-requires c κs = search needs
 
 returns : tie.Need-returns
 unfolding sendOf
-returns c = sym (cond-true _ _ (told (c .before .bad .ensures) (c .if1 .taken)))
+returns c = sym (cond-true _ _ (hence (c .before .bad .ensures) (c .if1 .taken)))
 
 slot-of-requires : tie.Need-slot-of-requires
 slot-of-requires c κs = fine c

@@ -5,20 +5,20 @@ use borrow.Author.Needs.{needs}
 use borrow.Author.Tests.{lt-ltb, le-ltb}
 use Rattle.end.specs.Good.{bad}
 use Rattle.end.specs.Taking.{takeOf}
-use Rattle.end.proofs.Laws.{cond-true, cond-false, told}
+use Rattle.laws.proofs.Bools.{cond-true, cond-false, hence}
 use Rattle.end.proofs.End.take.Statement.{statement}
 use Rattle.end.proofs.End.take.Tie as tie
 
 -- past the first test the end is one that answer 1 does not meet
 fine : (c : tie.Else1) → bad (c .before .before .args .self) ≡ false
-fine c = told (c .before .bad .ensures) (c .if1 .left)
+fine c = hence (c .before .bad .ensures) (c .if1 .left)
 
 bad-requires : tie.Need-bad-requires
 bad-requires c κs = search needs
 
 returns : tie.Need-returns
 unfolding takeOf
-returns c = sym (cond-true _ _ (told (c .before .bad .ensures) (c .if1 .taken)))
+returns c = sym (cond-true _ _ (hence (c .before .bad .ensures) (c .if1 .taken)))
 
 returns-2 : tie.Need-returns-2
 unfolding takeOf

@@ -1,20 +1,22 @@
--- `good::any_above` meets its contract. The invariant: what is left of the list decides. Assumes nothing.
-use Prim.Native.Nat.{_≤_, _-_}
-use mathlib.Core.Path.{_≡_, refl, sym, ap, _∙_}
-use native.Mathlib.Numerals.{add-one}
+-- `good::any_above` meets its contract: the list has a symbol above the limit where one of those passed is, or what is
+-- left of it has one. Assumes nothing.
+use Prim.Native.Nat.{_-_, _≤_}
+use mathlib.Core.Bool.{_||_}
+use mathlib.Core.Logic.{⊎-elim}
+use mathlib.Core.Path.{_≡_, refl, _∙_}
 use native.Mathlib.Omega.{arith}
-use lib.ListN.{length, drop, drop-of-length-le}
 use borrow.Author.Needs.{needs}
-use Rattle.end.specs.Good.{above}
-use Rattle.end.proofs.Laws.{above-at, above-past}
+use lib.ListN.{length, drop}
+use Rattle.laws.specs.Above.{above}
+use Rattle.laws.proofs.AboveLaws.{above-here, above-next, above-end}
 use Rattle.end.proofs.good.any_above.Statement.{statement}
 use Rattle.end.proofs.good.any_above.Tie as tie
 
 abbrev Inv-loop : tie.InvT-loop
-Inv-loop limit symbols i₀ i = (i ≤ 12) × (above limit (drop i symbols) ≡ above limit symbols)
+Inv-loop limit symbols found₀ i₀ found i = (i ≤ 12) × ((found || above limit (drop i symbols)) ≡ above limit symbols)
 
 abbrev μ-loop : tie.MeasureT-loop
-μ-loop limit symbols i₀ i = 12 - i
+μ-loop limit symbols found₀ i₀ found i = 12 - i
 
 loop-holds : tie.Need-loop-holds Inv-loop μ-loop
 loop-holds c = (omega arith, refl)
@@ -25,11 +27,6 @@ mul-if1 c = search needs
 array-read-if1 : tie.Need-array-read-if1 Inv-loop μ-loop
 array-read-if1 c = search needs
 
-returns : tie.Need-returns Inv-loop μ-loop
-returns c =
-    let a = c .before .before in
-    sym (above-at (a .before .args .limit) (a .before .args .t2) (a .loop .i) (c .if1 .taken)) ∙ a .loop .inv .1
-
 add-i : tie.Need-add-i Inv-loop μ-loop
 add-i c = search needs
 
@@ -38,17 +35,26 @@ loop-less c = search needs
 
 loop-again : tie.Need-loop-again Inv-loop μ-loop
 loop-again c =
-    let a = c .before .before in
-    let b = a .before .args in
-    (omega arith, rw add-one (above-past (b .limit) (b .t2) (a .loop .i) (c .if1 .left) ∙ a .loop .inv .1))
+    let s = c .before .before in
+    let at = s .loop in
+    let a = s .before .args in
+    let twelve : length (a .t2) ≡ 12 = search needs in
+    let inside = c .before .loop-test .taken in (
+      omega arith,
+      ⊎-elim
+          (λ w. rw (w .1)
+          (above-here (a .limit) (a .t2) (at .i) (at .found) (omega arith) (w .0 .taken) ∙ at .inv .1))
+          (λ w. rw (w .1)
+          (above-next (a .limit) (a .t2) (at .i) (at .found) (omega arith) (w .0 .left) ∙ at .inv .1))
+          (c .if1 .came),
+    )
 
-returns-2 : tie.Need-returns-2 Inv-loop μ-loop
-unfolding above
-returns-2 c =
-    let a = c .before in
-    let s = a .before .args .t2 in
-    let l : length s ≤ a .loop .i = search needs in
-    ap (above (a .before .args .limit)) (sym (drop-of-length-le s l)) ∙ a .loop .inv .1
+returns : tie.Need-returns Inv-loop μ-loop
+returns c =
+    let at = c .before .loop in
+    let a = c .before .before .args in
+    let twelve : length (a .t2) ≡ 12 = search needs in
+    above-end (a .limit) (a .t2) (at .i) (at .found) (omega arith) ∙ at .inv .1
 
 pub any-above-spec : {M : Type 1} → statement M
 any-above-spec =
@@ -59,8 +65,7 @@ any-above-spec =
     loop-holds
     mul-if1
     array-read-if1
-    returns
     add-i
     loop-less
     loop-again
-    returns-2)
+    returns)

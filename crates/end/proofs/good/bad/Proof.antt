@@ -1,7 +1,7 @@
 -- `good::bad` meets its contract. Both sides are the same disjunction, bracketed otherwise. Assumes nothing.
 use borrow.Author.Needs.{needs}
 use Rattle.end.specs.Good.{bad}
-use Rattle.end.proofs.Laws.{or-assoc}
+use Rattle.laws.proofs.Bools.{or-assoc}
 use Rattle.end.proofs.good.bad.Statement.{statement}
 use Rattle.end.proofs.good.bad.Tie as tie
 

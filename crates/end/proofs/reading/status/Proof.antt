@@ -24,7 +24,7 @@ mul-result c = search needs
 add-result-2 : tie.Need-add-result-2
 add-result-2 c =
     let g = good _ (c .before .before .before .pre) in
-    omega (arith, g .got)
+    omega (arith, g .number-in)
 
 wide-requires-2 : tie.Need-wide-requires-2
 wide-requires-2 c κs = search needs
@@ -32,7 +32,7 @@ wide-requires-2 c κs = search needs
 add-result-3 : tie.Need-add-result-3
 add-result-3 c =
     let g = good _ (c .before .before .before .before .pre) in
-    omega (arith, g .got, g .partner)
+    omega (arith, g .number-in, g .partner)
 
 returns : tie.Need-returns
 returns c = search needs

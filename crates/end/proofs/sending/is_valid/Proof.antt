@@ -1,8 +1,8 @@
 -- `sending::is_valid` meets its contract. Each return is the case of the choice that it knows. Assumes nothing.
 use mathlib.Core.Path.{sym, _∙_}
 use borrow.Author.Needs.{needs}
-use Rattle.frame.specs.Bits.{odd}
-use Rattle.end.proofs.Laws.{cond-true, cond-false}
+use Rattle.crc.specs.Bits.{odd}
+use Rattle.laws.proofs.Bools.{cond-true, cond-false}
 use Rattle.end.proofs.sending.is_valid.Statement.{statement}
 use Rattle.end.proofs.sending.is_valid.Tie as tie
 

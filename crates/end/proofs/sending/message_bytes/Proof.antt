@@ -1,7 +1,7 @@
 -- `sending::message_bytes` meets its contract. Each return is the case of the choice that it knows. Assumes nothing.
 use mathlib.Core.Path.{sym, _∙_}
 use borrow.Author.Needs.{needs}
-use Rattle.end.proofs.Laws.{cond-true, cond-false}
+use Rattle.laws.proofs.Bools.{cond-true, cond-false}
 use Rattle.end.proofs.sending.message_bytes.Statement.{statement}
 use Rattle.end.proofs.sending.message_bytes.Tie as tie
 

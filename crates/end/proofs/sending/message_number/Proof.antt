@@ -2,7 +2,8 @@
 use mathlib.Core.Path.{sym}
 use native.Mathlib.Omega.{arith}
 use borrow.Author.Needs.{needs}
-use Rattle.end.proofs.Laws.{cond-true, cond-false, good}
+use Rattle.laws.proofs.Bools.{cond-true, cond-false}
+use Rattle.end.proofs.Laws.{good}
 use Rattle.end.proofs.sending.message_number.Statement.{statement}
 use Rattle.end.proofs.sending.message_number.Tie as tie
 

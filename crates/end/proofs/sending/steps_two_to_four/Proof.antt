@@ -5,7 +5,7 @@ use mathlib.Core.Path.{sym, ap, _∙_}
 use borrow.Author.Needs.{needs}
 use Rattle.frame.specs.Frame.{build}
 use Rattle.end.specs.Sending.{stepsTwoToFour}
-use Rattle.end.proofs.Laws.{told}
+use Rattle.laws.proofs.Bools.{hence}
 use Rattle.end.proofs.sending.steps_two_to_four.Statement.{statement}
 use Rattle.end.proofs.sending.steps_two_to_four.Tie as tie
 
@@ -25,7 +25,7 @@ returns c =
     let s = c .before .before .before .before .build .ensures ∙ ap build (t .ten-bytes .ensures) in
     let h = c .before .if1 .taken in
     rw (s, h)
-    (ap (λ (l : Bool). stepsTwoToFour (a .acknowledged) l (a .end)) (sym (told (t .before .loads .ensures) h)))
+    (ap (λ (l : Bool). stepsTwoToFour (a .acknowledged) l (a .end)) (sym (hence (t .before .loads .ensures) h)))
 
 returns-2 : tie.Need-returns-2
 returns-2 c =
@@ -34,7 +34,7 @@ returns-2 c =
     let s = c .before .before .before .build .ensures ∙ ap build (t .ten-bytes .ensures) in
     let h = c .if1 .left in
     rw (s, h)
-    (ap (λ (l : Bool). stepsTwoToFour (a .acknowledged) l (a .end)) (sym (told (t .before .loads .ensures) h)))
+    (ap (λ (l : Bool). stepsTwoToFour (a .acknowledged) l (a .end)) (sym (hence (t .before .loads .ensures) h)))
 
 pub steps-two-to-four-spec : {M : Type 1} → statement M
 steps-two-to-four-spec =

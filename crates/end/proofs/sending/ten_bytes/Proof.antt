@@ -2,7 +2,7 @@
 use mathlib.Core.Path.{_≡_}
 use lib.ListN.{length}
 use borrow.Author.Needs.{needs}
-use Rattle.end.proofs.Laws.{eight}
+use Rattle.laws.proofs.Lists.{eight}
 use Rattle.end.proofs.sending.ten_bytes.Statement.{statement}
 use Rattle.end.proofs.sending.ten_bytes.Tie as tie
 

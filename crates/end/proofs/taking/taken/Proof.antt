@@ -3,8 +3,9 @@
 use mathlib.Core.Path.{ap, _∙_}
 use borrow.Author.Needs.{needs}
 use Rattle.frame.specs.Reason.{isAccepted}
+use Rattle.receiver.proofs.Laws.{accepts-reason}
 use Rattle.end.specs.Taking.{taken}
-use Rattle.end.proofs.Laws.{good, accepts-reason}
+use Rattle.end.proofs.Laws.{good}
 use Rattle.end.proofs.taking.taken.Statement.{statement}
 use Rattle.end.proofs.taking.taken.Tie as tie
 
@@ -12,7 +13,7 @@ settle-requires : tie.Need-settle-requires
 settle-requires c κs = search needs
 
 collect-requires : tie.Need-collect-requires
-collect-requires c κs = good _ (c .before .before .before .pre) .count
+collect-requires c κs = good _ (c .before .before .before .before .pre) .count
 
 reason-of-requires : tie.Need-reason-of-requires
 reason-of-requires c κs = search needs
@@ -41,7 +42,7 @@ returns c =
     let a = h .before in
     let r = a .before in
     let s = r .before .before in
-    let x = s .before .before .before .before .args in
+    let x = s .before .before .before .before .before .args in
     let step = accepts-reason (x .symbol) (x .end .collector .count) (s .collect .result .symbols) in
     let accepted = a .is-accepted .ensures ∙ ap isAccepted (r .reason-of .ensures) ∙ step in
     rw (c .left-after .ensures, t .tally .ensures, n .enter .ensures, h .hear .ensures, accepted, r .reason-of .ensures)

@@ -1,7 +1,7 @@
 -- `writing::to_control` meets its contract, by the two tests. Assumes nothing.
 use mathlib.Core.Path.{refl, sym}
 use borrow.Author.Needs.{needs}
-use Rattle.frame.specs.Bits.{odd}
+use Rattle.crc.specs.Bits.{odd}
 use Rattle.end.proofs.RegisterLaws.{mask-set, mask-clear, write-bits, write-blocked, write-done}
 use Rattle.end.proofs.writing.to_control.Statement.{statement}
 use Rattle.end.proofs.writing.to_control.Tie as tie

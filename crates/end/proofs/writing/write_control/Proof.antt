@@ -1,6 +1,6 @@
 -- `writing::write_control` meets its contract. Each return knows whether a message is pending. Assumes nothing.
 use borrow.Author.Needs.{needs}
-use Rattle.frame.specs.Bits.{odd}
+use Rattle.crc.specs.Bits.{odd}
 use Rattle.end.proofs.writing.write_control.Statement.{statement}
 use Rattle.end.proofs.writing.write_control.Tie as tie
 

@@ -2,8 +2,8 @@
 use mathlib.Core.List.{_++_, append-assoc}
 use mathlib.Core.Path.{ap₂, _∙_}
 use borrow.Author.Needs.{needs}
-use Rattle.frame.specs.Bits.{bits}
-use Rattle.frame.proofs.BitsLaws.{bits-join}
+use Rattle.crc.specs.Bits.{bits}
+use Rattle.crc.proofs.BitsLaws.{bits-join}
 use Rattle.frame.proofs.words.four.Statement.{statement}
 use Rattle.frame.proofs.words.four.Tie as tie
 

@@ -1,6 +1,6 @@
 -- `frame::words::odd` meets its contract: the count of ones is odd where their exclusive or is. Assumes nothing.
-use Rattle.frame.specs.Bits.{odd}
-use Rattle.frame.proofs.BitsLaws.{ones-odd}
+use Rattle.crc.specs.Bits.{odd}
+use Rattle.crc.proofs.BitsLaws.{ones-odd}
 use Rattle.frame.proofs.words.odd.Statement.{statement}
 use Rattle.frame.proofs.words.odd.Tie as tie
 

@@ -1,6 +1,6 @@
 -- `frame::words::two` meets its contract. Assumes nothing.
 use borrow.Author.Needs.{needs}
-use Rattle.frame.proofs.BitsLaws.{bits-join}
+use Rattle.crc.proofs.BitsLaws.{bits-join}
 use Rattle.frame.proofs.words.two.Statement.{statement}
 use Rattle.frame.proofs.words.two.Tie as tie
 

@@ -1,0 +1,3 @@
+pub mod BitsLaws
+pub mod CrcLaws
+pub mod LinearLaws

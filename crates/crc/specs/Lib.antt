@@ -1,0 +1,3 @@
+pub mod Bits
+pub mod Crc
+pub mod Published

@@ -9,20 +9,23 @@ use mathlib.Core.Path.{refl, sym}
 use native.Mathlib.Nat.{le-of-eq}
 use native.Mathlib.Omega.{arith}
 use lib.ListN.{length}
-use Rattle.frame.specs.Bits.{odd, bits, number, oddOnes}
-use Rattle.frame.specs.Crc.{plus, times, shift, run as fed, crc}
+use Rattle.crc.specs.Bits.{odd, bits, number, oddOnes}
+use Rattle.crc.specs.Crc.{plus, times, shift, run as fed, crc}
 use Rattle.frame.specs.Frame.{generator, stream, crcOf, even, evenSymbol, oddSymbol, symbols, build, crcRight}
-use Rattle.end.specs.Good.{above, bad}
+use Rattle.frame.specs.Frame.{noneMarked}
+use Rattle.laws.specs.Above.{above}
+use Rattle.end.specs.Good.{bad}
 use Rattle.end.specs.Sending.{acked, frameStart, sendOf}
 use Rattle.end.specs.Taking.{taken, takeOf}
 use Rattle.end.specs.Registers.{readOf, writeOf}
-use Rattle.link.specs.Link.{messageOut, takes, run, ruled}
-use Rattle.link.specs.Demand.{aToB, clear, slots, Through}
-use Rattle.link.specs.Tight.{quiet, sixteen, before, after, short, late, TooSoon, BoundTight, crowded, MostTight}
+use Rattle.link.specs.Link.{messageOut, taking, run, ruled}
+use Rattle.link.specs.Demand.{aToB, unmarked, slots, Landed}
+use Rattle.link.specs.Tight.{quiet, sixteen, oneSlot, asked, short, late, TooSoon, BoundTight, crowded}
+use Rattle.link.specs.Tight.{MostTight}
 use Rattle.link.specs.Cases.{Cases}
 
 pub cases : Cases
-unfolding run ruled takes
+unfolding run ruled taking
     above bad readOf writeOf sendOf acked frameStart taken takeOf
     odd xor bits number oddOnes plus times shift fed crc
     generator stream crcOf even evenSymbol oddSymbol symbols build crcRight
@@ -37,7 +40,7 @@ cases = record {
   entered-late = refl;
   not-acknowledged = refl;
   acknowledged = refl;
-  blocked = refl;
+  untaken = refl;
   refused = refl;
   refused-bits = refl;
   take-ruled = refl;
@@ -47,7 +50,7 @@ cases = record {
 }
 
 pub too-soon : TooSoon
-unfolding before after late run ruled takes clear slots
+unfolding oneSlot asked late run ruled taking unmarked slots noneMarked
     above bad readOf writeOf sendOf acked frameStart taken takeOf
     odd xor bits number oddOnes plus times shift fed crc
     generator stream crcOf even evenSymbol oddSymbol symbols build crcRight
@@ -56,25 +59,25 @@ too-soon = record {
   idle = record { pending = refl; acknowledged = refl; empty = refl };
   accepted = refl;
   still-by-rule = refl;
-  unmarked = refl;
+  none-marked = refl;
   slots-are = refl;
   not-yet = refl;
   one-more = refl;
 }
 
 pub bound-tight : BoundTight
-unfolding before after late
-bound-tight promise = omega (arith, too-soon .not-yet, through .acknowledged)
+unfolding oneSlot asked late
+bound-tight promise = omega (arith, too-soon .not-yet, landed .acknowledged)
   where
-    through : Through (length (before .a .accepted)) (messageOut (after .a .end)) (late .a) (late .b)
-    through =
-        promise aToB 1 1 (quiet 1) (too-soon .by-rule) before refl (too-soon .idle)
-        0x8000 sixteen (too-soon .accepted) after refl
-        (quiet (short 1 1)) (too-soon .still-by-rule) (too-soon .unmarked) (le-of-eq (sym (too-soon .slots-are)))
+    landed : Landed (length (oneSlot .a .host .accepted)) (messageOut (asked .a .end)) (late .a) (late .b)
+    landed =
+        promise aToB 1 1 (quiet 1) (too-soon .by-rule) oneSlot refl (too-soon .idle)
+        0x8000 sixteen (too-soon .accepted) asked refl
+        (quiet (short 1 1)) (too-soon .still-by-rule) (too-soon .none-marked) (le-of-eq (sym (too-soon .slots-are)))
         late refl
 
 pub most-tight : MostTight
-unfolding crowded run takes
+unfolding crowded run taking
     above bad readOf writeOf sendOf acked frameStart taken takeOf
     odd xor bits number oddOnes plus times shift fed crc
     generator stream crcOf even evenSymbol oddSymbol symbols build crcRight

@@ -1,24 +1,16 @@
+-- The proofs of what specs/ states, from the bottom up. Beside a folder stands a file of its name: what it comes to.
+--   Line        what a side has sent, as cells of frames: their words, the next one, what arrives, a collection on it
+--   Invariant   what is true after every run by the rule: one way, and both
+--   Kept        each step keeps it, and so does every run
+--   PartOne     demand 3, first part, and the facts on the log
+--   PartTwo     demand 3, second part: a message's progress, slot by slot
+--   Rule        the rule of a run is document 01's
+--   Computed    runs that are computed: the cases, and that no number of demand 3 can be smaller
+-- Assumes nothing.
+pub mod Line
+pub mod Invariant
+pub mod Kept
+pub mod PartOne
+pub mod PartTwo
+pub mod Rule
 pub mod Computed
-pub mod Views
-pub mod Words
-pub mod Cells
-pub mod Collecting
-pub mod Way
-pub mod Inv
-pub mod Sent
-pub mod Making
-pub mod SendStep
-pub mod Logs
-pub mod Filled
-pub mod TakeStep
-pub mod SlotStep
-pub mod HostStep
-pub mod Writing
-pub mod Reading
-pub mod Runs
-pub mod Part1
-pub mod Progress
-pub mod Arrival
-pub mod SlotProgress
-pub mod Part2
-pub mod Rules

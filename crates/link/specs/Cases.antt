@@ -13,7 +13,7 @@ use mathlib.Core.Path.{_≡_}
 use native.Mathlib.Omega.{arith}
 use lib.ListN.{take}
 use Rattle.end.specs.Registers.{readOf}
-use Rattle.link.specs.Link.{Message, World, read, write, Event, atA, atB, start, run, ruled}
+use Rattle.link.specs.Link.{Message, World, resetWorld, read, write, Event, atA, atB, run, ruled}
 use Rattle.link.specs.Demand.{bound}
 use Rattle.link.specs.Tight.{quiet, writes}
 
@@ -27,7 +27,7 @@ abbrev pub sendsFive : List Event
 sendsFive = atA (write 2309 0x2211 (fits .0)) ∷ atA (write 2308 0x8500 (fits .1)) ∷ []
 
 abbrev pub later : ℕ → ℕ → World
-later n D = run D 0 (sendsFive ++ quiet n) start
+later n D = run D 0 (sendsFive ++ quiet n) resetWorld
 
 abbrev pub firstReads : ℕ → List Event
 firstReads n =
@@ -35,24 +35,24 @@ firstReads n =
 
 pub record Cases : Type 0 where
   -- the frame's last symbol brings the message, which is taken by five reads and not by four
-  pub accepted : later 0 0 .a .accepted ≡ five ∷ []
-  pub not-entered : later 11 0 .b .entered ≡ []
-  pub entered : later 12 0 .b .entered ≡ five ∷ []
+  pub accepted : later 0 0 .a .host .accepted ≡ five ∷ []
+  pub not-entered : later 11 0 .b .log .entered ≡ []
+  pub entered : later 12 0 .b .log .entered ≡ five ∷ []
   pub status : readOf (later 12 0 .b .end) 2313 .value ≡ 0x8500
-  pub four-reads : run 0 0 (firstReads 4) (later 12 0) .b .taken ≡ []
-  pub five-reads : run 0 0 (firstReads 5) (later 12 0) .b .taken ≡ five ∷ []
+  pub four-reads : run 0 0 (firstReads 4) (later 12 0) .b .host .taken ≡ []
+  pub five-reads : run 0 0 (firstReads 5) (later 12 0) .b .host .taken ≡ five ∷ []
   -- with a delay of one slot it comes one slot later
-  pub not-entered-late : later 12 1 .b .entered ≡ []
-  pub entered-late : later 13 1 .b .entered ≡ five ∷ []
+  pub not-entered-late : later 12 1 .b .log .entered ≡ []
+  pub entered-late : later 13 1 .b .log .entered ≡ five ∷ []
   -- step 1 acts on the acknowledgement in slot 24
-  pub not-acknowledged : later 24 0 .a .acknowledged ≡ 0
-  pub acknowledged : later 25 0 .a .acknowledged ≡ 1
+  pub not-acknowledged : later 24 0 .a .log .ackCount ≡ 0
+  pub acknowledged : later 25 0 .a .log .ackCount ≡ 1
   -- while b's host takes nothing, the next message is not acknowledged: the bound needs an empty register
-  pub blocked : run 0 0 (writes ∷ quiet (bound 0 0)) (later 25 0) .a .acknowledged ≡ 1
+  pub untaken : run 0 0 (writes ∷ quiet (bound 0 0)) (later 25 0) .a .log .ackCount ≡ 1
   -- a second message while one is pending is answered 4 and is not accepted
-  pub refused : run 0 0 (atA (write 2308 0x8600 (fits .2)) ∷ []) (later 0 0) .a .accepted ≡ five ∷ []
+  pub refused : run 0 0 (atA (write 2308 0x8600 (fits .2)) ∷ []) (later 0 0) .a .host .accepted ≡ five ∷ []
   -- nor is one whose write sets a read-only bit, which is answered 10
-  pub refused-bits : run 0 0 (atA (write 2308 0x8540 (fits .3)) ∷ []) start .a .accepted ≡ []
+  pub refused-bits : run 0 0 (atA (write 2308 0x8540 (fits .3)) ∷ []) resetWorld .a .host .accepted ≡ []
   -- the rule
   pub take-ruled : ruled 0 0 (firstReads 5) (later 12 0) ≡ true
   pub looks-ruled : ruled 0 0 (firstReads 1 ++ firstReads 1) (later 0 0) ≡ true

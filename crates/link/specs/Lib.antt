@@ -1,5 +1,6 @@
 pub mod Link
 pub mod Demand
+pub mod LogFacts
+pub mod Rule
 pub mod Tight
 pub mod Cases
-pub mod Rule

@@ -1,48 +1,57 @@
 -- Two ends joined by two lines, each with its host. This page says what a run is; Demand.antt says what is demanded of
--- every run.
---   Message      a message number and eight bytes
---   Host         how far a host is in taking a message: the receive-side registers read so far, and what they gave
---   Side         one side: its end, all that it has sent (newest first), its host, and a log that nobody reads but the
---                statement: messages accepted, how many were loaded and acknowledged, messages entered and taken
---   Access       what a host may call between slots: read, write, set health, present
---   Harm         what happens to a symbol on its way: nothing, or a mark, any value from 512 to 1,023
---   Event        a slot, or one host's call
---   step, run    the world after an event, after a list of events, from two ends just reset
---   ruled        every receive-side read is the one that the rule for taking a message allows next; Rule.antt shows
---                that this is document 01's rule
--- The delays are D slots from a to b and E slots from b to a. Assumes nothing.
+-- every run. The delays are D slots from a to b and E slots from b to a.
+--   Message       a number and eight bytes; messageOut, messageIn: in the transmit registers, in the receive register
+--   Host          how far a host is in taking a message; its messages that were accepted, and those that it took
+--   Log           what happens in an end, for the statements alone: messages loaded, acknowledged, entered
+--   Side, World   an end with all that it has sent (newest first), its host and its log; two of them
+--   resetSide, resetWorld   before anything is called or sent
+--   also b m l    the list l, with m behind it where b
+--   Access, hosted   what a host may call between slots; a side after such a call
+--   ruledCall     the rule for taking a message; Rule.antt shows that it is document 01's
+--   bit15, receiveSide   of a value, of a register number
+--   gathered, advance, accepting   what a host has after a receive-side read, and after a write
+--   acceptsNow, acksNow, loadsNow, entersNow   a message is accepted, acknowledged, loaded, and enters
+--   sends         a side after it has sent
+--   Harm          what happens to a symbol on its way: nothing, or a mark, any value from 512 to 1,023
+--   arriving, taking   what arrives, one symbol or none; a side after it has taken that
+--   Event, step, run   a slot, or one host's call; the world after it; after a list of events
+--   ruled         every call of a run is by the rule
+-- Assumes nothing.
 use Prim.Native.Nat.{ℕ, _+_, _/_, _%_, _≤_, _<_}
-use mathlib.Core.Bool.{Bool, true, false, not, cond, _&&_, _||_}
-use mathlib.Core.List.{List, [], _∷_, _++_}
-use lib.Dec.{eqb, leb, ltb}
-use lib.ListN.{length, getD}
+use mathlib.Core.Bool.{Bool, true, not, cond, _&&_, _||_}
+use mathlib.Core.List.{List, [], _∷_, _++_, map}
+use lib.Dec.{eqb, leb}
+use lib.ListN.{take, drop}
 use Rattle.answer.specs.Number.{numberOf}
-use Rattle.frame.specs.Bits.{odd}
+use Rattle.crc.specs.Bits.{odd}
 use Rattle.end.specs.declared.End.{End}
 use Rattle.end.specs.Good.{resetOf}
 use Rattle.end.specs.Sending.{acked, stepOne, loads, sendOf}
-use Rattle.end.specs.Taking.{saidBy, placed, accepts, enters, settled, takeOf}
-use Rattle.end.specs.Registers.{readOf, writeOf}
-use Rattle.endlaws.specs.Calls.{Call, after}
+use Rattle.receiver.specs.Receiving.{saidBy, placed, accepts, enters}
+use Rattle.end.specs.Taking.{settled, takeOf}
+use Rattle.end.specs.Registers.{readOf, writeOf, healthOf}
 
 pub record Message : Type 0 where
   pub number : ℕ
   pub bytes : List ℕ
 
 pub record Host : Type 0 where
+  -- how many registers of a take it has read, and what they gave so far
   pub stage : ℕ
-  pub number : ℕ
-  pub bytes : List ℕ
+  pub soFar : Message
+  pub accepted : List Message
+  pub taken : List Message
+
+pub record Log : Type 0 where
+  pub loadCount : ℕ
+  pub ackCount : ℕ
+  pub entered : List Message
 
 pub record Side : Type 0 where
   pub end : End
   pub sent : List ℕ
   pub host : Host
-  pub accepted : List Message
-  pub loaded : ℕ
-  pub acknowledged : ℕ
-  pub entered : List Message
-  pub taken : List Message
+  pub log : Log
 
 pub record World : Type 0 where
   pub a : Side
@@ -52,18 +61,23 @@ abbrev pub resetSide : Side
 resetSide = record {
   end = resetOf;
   sent = [];
-  host = record { stage = 0; number = 0; bytes = [] };
-  accepted = [];
-  loaded = 0;
-  acknowledged = 0;
-  entered = [];
-  taken = [];
+  host = record { stage = 0; soFar = record { number = 0; bytes = [] }; accepted = []; taken = [] };
+  log = record { loadCount = 0; ackCount = 0; entered = [] };
 }
 
-abbrev pub start : World
-start = record { a = resetSide; b = resetSide }
+abbrev pub resetWorld : World
+resetWorld = record { a = resetSide; b = resetSide }
 
--- Host calls
+abbrev pub messageOut : End → Message
+messageOut e = record { number = e .outbox .number; bytes = e .outbox .bytes }
+
+abbrev pub messageIn : End → Message
+messageIn e = record { number = e .inbox .number; bytes = e .inbox .bytes }
+
+abbrev pub also : Bool → Message → List Message → List Message
+also b m l = cond b (l ++ (m ∷ [])) l
+
+-- Between slots: a host's call
 
 pub data Access : Type 0 where
   read : ℕ → Access
@@ -71,95 +85,58 @@ pub data Access : Type 0 where
   health : ℕ → Access
   present : Access
 
-abbrev pub callOf : Access → Call
-callOf (read r) = Call.read r
-callOf (write r v h) = Call.write r v h
-callOf (health h) = Call.health h
-callOf present = Call.present
+abbrev pub bit15 : ℕ → Bool
+bit15 v = odd (v / 32768)
 
 abbrev pub receiveSide : ℕ → Bool
 receiveSide r = leb 2313 r && leb r 2317
 
--- the rule: a host at stage n of a take reads 3.2313 + n next of its receive-side registers; all other calls are free
-abbrev pub ruledCall : Access → Side → Bool
-ruledCall (read r) s = not (receiveSide r) || eqb r (2313 + s .host .stage)
-ruledCall (write r v h) s = true
-ruledCall (health h) s = true
-ruledCall present s = true
+-- at stage n of a take a host reads 3.2313 + n next of its receive-side registers; all other calls are free
+abbrev pub ruledCall : Access → Host → Bool
+ruledCall (read r) h = not (receiveSide r) || eqb r (2313 + h .stage)
+ruledCall (write r v l) h = true
+ruledCall (health k) h = true
+ruledCall present h = true
 
--- a host after a receive-side read of register r that gave the value v: 3.2313 begins a take where bit 15 is set,
--- 3.2317 completes it
+-- register r gave the value v: 3.2313 the number, each of the others two bytes
+abbrev pub gathered : ℕ → ℕ → Message → Message
+gathered r v m = record {
+  number = cond (eqb r 2313) (v / 256 % 16) (m .number);
+  bytes = cond (eqb r 2313) [] (m .bytes ++ (v % 256 ∷ v / 256 ∷ []));
+}
+
+-- 3.2313 begins a take where bit 15 is set, 3.2317 completes it
 abbrev pub advance : ℕ → ℕ → Host → Host
 advance r v h = record {
-  stage = cond (eqb r 2313) (cond (odd (v / 32768)) 1 0) (cond (eqb r 2317) 0 (h .stage + 1));
-  number = cond (eqb r 2313) (v / 256 % 16) (h .number);
-  bytes = cond (eqb r 2313) [] (h .bytes ++ (v % 256 ∷ v / 256 ∷ []));
+  stage = cond (eqb r 2313) (cond (bit15 v) 1 0) (cond (eqb r 2317) 0 (h .stage + 1));
+  soFar = gathered r v (h .soFar);
+  accepted = h .accepted;
+  taken = also (eqb r 2317) (gathered r v (h .soFar)) (h .taken);
 }
 
--- one of two, field by field
-abbrev pub pickHost : Bool → Host → Host → Host
-pickHost b x y = record {
-  stage = cond b (x .stage) (y .stage);
-  number = cond b (x .number) (y .number);
-  bytes = cond b (x .bytes) (y .bytes);
-}
-
--- the message that a host has read, with the last register's value v
-abbrev pub messageRead : Host → ℕ → Message
-messageRead h v = record { number = h .number; bytes = h .bytes ++ (v % 256 ∷ v / 256 ∷ []) }
-
--- the message that stands in the transmit registers
-abbrev pub messageOut : End → Message
-messageOut e = record { number = e .outbox .number; bytes = e .outbox .bytes }
-
--- a write to 3.2308 with bit 15, answered 0, accepts a message
+-- a write to 3.2308 with bit 15, answered 0, accepts the message then standing in the transmit registers
 abbrev pub acceptsNow : ℕ → ℕ → End → Bool
-acceptsNow r v e = eqb r 2308 && (odd (v / 32768) && eqb (numberOf (writeOf e r v .answer)) 0)
+acceptsNow r v e = eqb r 2308 && (bit15 v && eqb (numberOf (writeOf e r v .answer)) 0)
 
-abbrev pub hostAfter : Access → Side → Host
-hostAfter (read r) s = pickHost (receiveSide r) (advance r (readOf (s .end) r .value) (s .host)) (s .host)
-hostAfter (write r v h) s = s .host
-hostAfter (health h) s = s .host
-hostAfter present s = s .host
+abbrev pub accepting : Bool → Message → Host → Host
+accepting b m h = record { stage = h .stage; soFar = h .soFar; accepted = also b m (h .accepted); taken = h .taken }
 
-abbrev pub acceptedAfter : Access → Side → List Message
-acceptedAfter (read r) s = s .accepted
-acceptedAfter (write r v h) s =
-    cond (acceptsNow r v (s .end)) (s .accepted ++ (messageOut (writeOf (s .end) r v .end) ∷ [])) (s .accepted)
-acceptedAfter (health h) s = s .accepted
-acceptedAfter present s = s .accepted
-
--- reading 3.2317 completes the taking of a message
-abbrev pub takenAfter : Access → Side → List Message
-takenAfter (read r) s =
-    cond (eqb r 2317) (s .taken ++ (messageRead (s .host) (readOf (s .end) r .value) ∷ [])) (s .taken)
-takenAfter (write r v h) s = s .taken
-takenAfter (health h) s = s .taken
-takenAfter present s = s .taken
+abbrev pub withHost : Side → End → Host → Side
+withHost s e h = record { end = e; sent = s .sent; host = h; log = s .log }
 
 abbrev pub hosted : Access → Side → Side
-hosted c s = record {
-  end = after (callOf c) (s .end);
-  sent = s .sent;
-  host = hostAfter c s;
-  accepted = acceptedAfter c s;
-  loaded = s .loaded;
-  acknowledged = s .acknowledged;
-  entered = s .entered;
-  taken = takenAfter c s;
-}
+hosted (read r) s =
+    withHost s (readOf (s .end) r .end)
+    (cond (receiveSide r) (advance r (readOf (s .end) r .value) (s .host)) (s .host))
+hosted (write r v l) s =
+    withHost s (writeOf (s .end) r v .end)
+    (accepting (acceptsNow r v (s .end)) (messageOut (writeOf (s .end) r v .end)) (s .host))
+hosted (health k) s = withHost s (healthOf (s .end) k .end) (s .host)
+hosted present s = s
 
--- Slots
+-- In a slot
 
-pub data Harm : Type 0 where
-  sound : Harm
-  mark : (v : ℕ) → 512 ≤ v → v < 1024 → Harm
-
-abbrev pub harmed : Harm → ℕ → ℕ
-harmed sound s = s
-harmed (mark v l h) s = v
-
--- sending step 1 acts in the next slot; step 3 loads a message in it
+-- where a frame is made, step 1 may act on an acknowledgement, and step 3 may load a message
 abbrev pub acksNow : End → Bool
 acksNow e = eqb (e .sender .position) 0 && acked e
 
@@ -171,50 +148,39 @@ sends s = record {
   end = sendOf (s .end) .end;
   sent = sendOf (s .end) .symbol ∷ s .sent;
   host = s .host;
-  accepted = s .accepted;
-  loaded = cond (loadsNow (s .end)) (s .loaded + 1) (s .loaded);
-  acknowledged = cond (acksNow (s .end)) (s .acknowledged + 1) (s .acknowledged);
-  entered = s .entered;
-  taken = s .taken;
+  log = record {
+    loadCount = cond (loadsNow (s .end)) (s .log .loadCount + 1) (s .log .loadCount);
+    ackCount = cond (acksNow (s .end)) (s .log .ackCount + 1) (s .log .ackCount);
+    entered = s .log .entered;
+  };
 }
 
--- the message in the receive register
-abbrev pub messageIn : End → Message
-messageIn e = record { number = e .inbox .number; bytes = e .inbox .bytes }
+pub data Harm : Type 0 where
+  sound : Harm
+  mark : (v : ℕ) → 512 ≤ v → v < 1024 → Harm
 
--- the symbol s brings a message into the receive register
+abbrev pub harmed : Harm → ℕ → ℕ
+harmed sound y = y
+harmed (mark v l h) y = v
+
+-- what was sent d slots ago; nothing where nothing was
+abbrev pub arriving : ℕ → Harm → List ℕ → List ℕ
+arriving d h sent = map (harmed h) (take 1 (drop d sent))
+
+-- the symbol y brings a message into the receive register
 abbrev pub entersNow : ℕ → End → Bool
-entersNow s e = enters (accepts s (e .collector)) (saidBy (placed s (e .collector))) (settled e)
+entersNow y e = enters (accepts y (e .collector)) (saidBy (placed y (e .collector))) (settled e)
 
--- a side takes the symbol s, if one arrives
-unfoldable pub takes : Bool → ℕ → Side → Side
-takes true s x = record {
-  end = takeOf (x .end) s .end;
-  sent = x .sent;
-  host = x .host;
-  accepted = x .accepted;
-  loaded = x .loaded;
-  acknowledged = x .acknowledged;
-  entered = cond (entersNow s (x .end)) (x .entered ++ (messageIn (takeOf (x .end) s .end) ∷ [])) (x .entered);
-  taken = x .taken;
-}
-takes false s x = x
+abbrev pub entering : Bool → Message → Log → Log
+entering b m g = record { loadCount = g .loadCount; ackCount = g .ackCount; entered = also b m (g .entered) }
 
--- what was sent d slots ago arrives, and nothing where nothing was
-abbrev pub arrives : ℕ → List ℕ → Bool
-arrives d sent = ltb d (length sent)
-
-abbrev pub arriving : ℕ → List ℕ → ℕ
-arriving d sent = getD sent d 0
-
-abbrev pub arrive : ℕ → Harm → Side → Side → Side
-arrive d h from s = takes (arrives d (from .sent)) (harmed h (arriving d (from .sent))) s
-
--- in a slot both send, then both take what arrives
-abbrev pub slotStep : ℕ → ℕ → Harm → Harm → World → World
-slotStep D E ha hb w = record {
-  a = arrive E ha (sends (w .b)) (sends (w .a));
-  b = arrive D hb (sends (w .a)) (sends (w .b));
+unfoldable pub taking : List ℕ → Side → Side
+taking [] s = s
+taking (y ∷ l) s = record {
+  end = takeOf (s .end) y .end;
+  sent = s .sent;
+  host = s .host;
+  log = entering (entersNow y (s .end)) (messageIn (takeOf (s .end) y .end)) (s .log);
 }
 
 -- Events and runs
@@ -223,19 +189,23 @@ pub data Event : Type 0 where
   slot : Harm → Harm → Event
   atA atB : Access → Event
 
+-- in a slot both send, then both take what arrives
 abbrev pub step : ℕ → ℕ → Event → World → World
-step D E (slot ha hb) w = slotStep D E ha hb w
+step D E (slot ha hb) w = record {
+  a = taking (arriving E ha (sends (w .b) .sent)) (sends (w .a));
+  b = taking (arriving D hb (sends (w .a) .sent)) (sends (w .b));
+}
 step D E (atA c) w = record { a = hosted c (w .a); b = w .b }
 step D E (atB c) w = record { a = w .a; b = hosted c (w .b) }
-
-abbrev pub ruledStep : Event → World → Bool
-ruledStep (slot ha hb) w = true
-ruledStep (atA c) w = ruledCall c (w .a)
-ruledStep (atB c) w = ruledCall c (w .b)
 
 unfoldable pub run : ℕ → ℕ → List Event → World → World
 run D E [] w = w
 run D E (e ∷ es) w = run D E es (step D E e w)
+
+abbrev pub ruledStep : Event → World → Bool
+ruledStep (slot ha hb) w = true
+ruledStep (atA c) w = ruledCall c (w .a .host)
+ruledStep (atB c) w = ruledCall c (w .b .host)
 
 unfoldable pub ruled : ℕ → ℕ → List Event → World → Bool
 ruled D E [] w = true

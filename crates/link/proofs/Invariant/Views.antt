@@ -9,11 +9,12 @@ use mathlib.Core.List.{List}
 use mathlib.Core.Path.{_≡_, refl}
 use Rattle.frame.specs.Frame.{marked, even}
 use Rattle.end.specs.declared.End.{End}
-use Rattle.end.specs.declared.Heard.{Heard}
-use Rattle.end.specs.declared.Inbox.{Inbox}
-use Rattle.end.specs.declared.Collector.{Collector}
+use Rattle.receiver.specs.declared.Heard.{Heard}
+use Rattle.receiver.specs.declared.Inbox.{Inbox}
+use Rattle.receiver.specs.declared.Collector.{Collector}
 use Rattle.end.specs.Sending.{acked, stepOne, loads, stepsTwoToFour}
-use Rattle.end.specs.Taking.{releases, settled, placed, counted, completes, saidBy, enters, entered}
+use Rattle.receiver.specs.Receiving.{releases, placed, countWith, completes, saidBy, enters, entered}
+use Rattle.end.specs.Taking.{settled}
 use Rattle.end.specs.Registers.{readEnd}
 use Rattle.protocol.specs.Steps as steps
 use Rattle.protocol.specs.Steps.{Out, In}
@@ -46,16 +47,16 @@ stepThree-view a l e = refl
 
 -- Taking
 
-pub releases-view : (e : End) → releases e ≡ steps.releases (e .heard .valid) (inOf (e .inbox))
+pub releases-view : (e : End) → releases (e .heard) (e .inbox) ≡ steps.releases (e .heard .valid) (inOf (e .inbox))
 releases-view e = refl
 
-pub settle-view : (e : End) → inOf (settled e) ≡ steps.settle (releases e) (e .heard .toggle) (inOf (e .inbox))
+pub settle-view : (e : End) → inOf (settled e) ≡ steps.settle (releases (e .heard) (e .inbox)) (e .heard .toggle) (inOf (e .inbox))
 settle-view e = refl
 
 pub placed-view : (s : ℕ) (c : Collector) → placed s c ≡ steps.placed (marked s) (even s) s (c .symbols) (c .count)
 placed-view s c = refl
 
-pub counted-view : (s : ℕ) (c : Collector) → counted s c ≡ steps.counted (marked s) (even s) (c .count)
+pub counted-view : (s : ℕ) (c : Collector) → countWith s c ≡ steps.countWith (marked s) (even s) (c .count)
 counted-view s c = refl
 
 pub completes-view : (s : ℕ) (c : Collector) → completes s c ≡ steps.completes (marked s) (even s) (c .count)

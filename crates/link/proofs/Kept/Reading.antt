@@ -1,5 +1,7 @@
 -- A host reads, by the rule: the invariant is kept, and what is read out of the receive register is the next message.
---   readBy      a side after a read, by the tests of the register number and the value read
+--   status-reads, pair-apart, take-pair   what 3.2313 and the registers of bytes hold
+--   outBy, inBy, endBy   the registers and the end after a read, by the tests of the register number
+--   gatheredBy, hostBy   the host after a receive-side read, by those tests and the value read
 --   read-kept   the invariant after a read by the rule
 -- Assumes nothing.
 use Prim.Native.Nat.{ℕ, zero, suc, _+_, _-_, _*_, _/_, _%_, _≤_, _<_}
@@ -14,28 +16,30 @@ use lib.ListN.{length, getD, take, length-append}
 use lib.Seq.{take-suc, take-all}
 use borrow.Author.Tests.{eq-eqb, ne-eqb, eqb-true, eqb-false, le-leb, lt-leb, ltb-true}
 use Rattle.answer.specs.declared.Answer.the-variants.{Done, NoRegister}
-use Rattle.frame.specs.Bits.{odd}
 use Rattle.end.specs.declared.End.{End}
-use Rattle.end.specs.declared.Inbox.{Inbox}
+use Rattle.receiver.specs.declared.Inbox.{Inbox}
 use Rattle.end.specs.declared.Outbox.{Outbox}
 use Rattle.end.specs.declared.Got.{Got}
-use Rattle.end.specs.Good.{bad, above}
+use Rattle.end.specs.Good.{bad}
+use Rattle.laws.specs.Above.{above}
 use Rattle.end.specs.Registers.{outside, pair, status, valueOf, readEnd, readOf}
-use Rattle.endlaws.specs.Calls.{Call}
-use Rattle.endlaws.specs.Shape.{Shaped}
-use Rattle.endlaws.proofs.Base.{or-cases, above-getD}
+use Rattle.end.specs.Calls.{Call}
+use Rattle.end.specs.Shape.{Shaped}
+use Rattle.laws.proofs.Bools.{or-cases}
+use Rattle.laws.proofs.AboveLaws.{above-getD}
 use Rattle.endlaws.proofs.Shapes.{after-shaped}
 use Rattle.endlaws.proofs.Goods.{good, after-good}
 use Rattle.end.proofs.RegisterLaws.{read-done}
 use Rattle.protocol.specs.Steps.{num}
 use Rattle.protocol.proofs.Keeps.{num-le, emptied-receiving}
-use Rattle.link.specs.Link.{Message, Host, Side, read, hosted, receiveSide, ruledCall, pickHost, messageRead}
-use Rattle.link.proofs.Words.{bit-num, odd-is}
-use Rattle.link.proofs.Cells.{Cell}
-use Rattle.link.proofs.Logs.{part-more}
-use Rattle.link.proofs.Way.{nothing, HostOk, messageAt, Filling}
-use Rattle.link.proofs.Inv.{Inv}
-use Rattle.link.proofs.HostStep.{endAs, hostedAs, hosted-as}
+use Rattle.link.specs.Link.{Message, Host, Side, also, read, bit15, receiveSide, ruledCall, advance, withHost}
+use Rattle.link.specs.Link.{hosted}
+use Rattle.link.proofs.Line.Words.{bit-num, odd-is}
+use Rattle.link.proofs.Line.{Cell}
+use Rattle.link.proofs.Invariant.Logs.{part-more}
+use Rattle.link.proofs.Invariant.OneWay.{noMessage, TakeOk, messageAt, Filling}
+use Rattle.link.proofs.Invariant.{Inv}
+use Rattle.link.proofs.Kept.Hosting.{endAs, hosted-as}
 
 -- 3.2313's value holds full and the number
 status-reads : (f t n h : ℕ) → f ≤ 1 → t ≤ 1 → n ≤ 15 → h ≤ 3
@@ -62,9 +66,9 @@ take-pair l i h k =
     two = omega arith
 
 -- a host that is not in a take
-idle-ok : (h : Host) (f : Bool) (m : Message) → h .stage ≡ 0 → HostOk h f m
-idle-ok h f m z = record {
-  stage = omega arith;
+no-take-ok : (n : ℕ) (p : Message) (f : Bool) (m : Message) → n ≡ 0 → TakeOk n p f m
+no-take-ok n p f m z = record {
+  within = omega arith;
   full = λ p. absurd (omega arith);
   number = λ p. absurd (omega arith);
   bytes = λ p. absurd (omega arith);
@@ -96,18 +100,20 @@ module _ {a b : Side} {ca cb : List Cell} {D E pa pb : ℕ} (i : Inv a b ca cb D
   abbrev endBy : Bool → Bool → End
   endBy u x = endAs (a .end) (a .end .sender .health) (outBy x) (inBy u)
 
-  -- the host after it, where s says that it was of a receive-side register, t of 3.2313, and w is the value
-  abbrev hostBy : Bool → Bool → Bool → ℕ → Host
-  hostBy s t u w = pickHost s (record {
-    stage = cond t (cond (odd (w / 32768)) 1 0) (cond u 0 (a .host .stage + 1));
-    number = cond t (w / 256 % 16) (a .host .number);
-    bytes = cond t [] (a .host .bytes ++ (w % 256 ∷ w / 256 ∷ []));
-  }) (a .host)
+  -- the host after it, where t says that it was of 3.2313, and w is the value
+  abbrev gatheredBy : Bool → ℕ → Message
+  gatheredBy t w = record {
+    number = cond t (w / 256 % 16) (a .host .soFar .number);
+    bytes = cond t [] (a .host .soFar .bytes ++ (w % 256 ∷ w / 256 ∷ []));
+  }
 
-  abbrev readBy : Bool → Bool → Bool → Bool → ℕ → Side
-  readBy s t u x w =
-      hostedAs a (endBy u x) (hostBy s t u w) (a .accepted)
-      (cond u (a .taken ++ (messageRead (a .host) w ∷ [])) (a .taken))
+  abbrev hostBy : Bool → Bool → ℕ → Host
+  hostBy t u w = record {
+    stage = cond t (cond (bit15 w) 1 0) (cond u 0 (a .host .stage + 1));
+    soFar = gatheredBy t w;
+    accepted = a .host .accepted;
+    taken = also u (gatheredBy t w) (a .host .taken);
+  }
 
   abbrev Keeps : Side → Type 0
   Keeps s = Inv s b ca cb D E pa pb
@@ -115,22 +121,32 @@ module _ {a b : Side} {ca cb : List Cell} {D E pa pb : ℕ} (i : Inv a b ca cb D
   abbrev box : Inbox
   box = a .end .inbox
 
-  abbrev fill : Filling (a .end .heard) (a .end .inbox) (a .host) (b .accepted) (a .entered) (a .taken) (i .ba .ha)
+  abbrev fill : Filling (a .end .heard) (a .end .inbox) (a .host .stage) (a .host .soFar) (b .host .accepted)
+      (a .log .entered) (a .host .taken) (i .ba .ha)
   fill = i .ba .filling
 
   module _ (x : Bool) where
-    by-filling : (s t u : Bool) (w : ℕ) → bad (endBy u x) ≡ false → Shaped (endBy u x)
-        → Filling (a .end .heard) (inBy u) (hostBy s t u w) (b .accepted) (a .entered) (readBy s t u x w .taken)
-        (i .ba .ha)
-        → Keeps (readBy s t u x w)
-    by-filling s t u w fine shaped f =
-        hosted-as i (a .end .sender .health) (outBy x) (inBy u) (hostBy s t u w) (a .accepted) (readBy s t u x w .taken)
-        fine shaped (i .ab .holding) f (i .ab .filling) (i .ab .onward .frames)
+    -- a read of another register: the host stays as it was
+    other-kept : bad (endBy false x) ≡ false → Shaped (endBy false x) → Keeps (withHost a (endBy false x) (a .host))
+    other-kept fine shaped =
+        hosted-as i (a .end .sender .health) (outBy x) (inBy false) (a .host) fine shaped (i .ab .holding) fill
+        (i .ab .filling) (i .ab .onward .frames)
+
+    abbrev HasRead : Bool → Bool → ℕ → Type 0
+    HasRead t u w = Keeps (withHost a (endBy u x) (hostBy t u w))
+
+    by-filling : (t u : Bool) (w : ℕ) → bad (endBy u x) ≡ false → Shaped (endBy u x)
+        → Filling (a .end .heard) (inBy u) (hostBy t u w .stage) (gatheredBy t w) (b .host .accepted) (a .log .entered)
+        (hostBy t u w .taken) (i .ba .ha)
+        → HasRead t u w
+    by-filling t u w fine shaped f =
+        hosted-as i (a .end .sender .health) (outBy x) (inBy u) (hostBy t u w) fine shaped (i .ab .holding) f
+        (i .ab .filling) (i .ab .onward .frames)
 
     -- nothing is read out of the register, and the host knows what it read
-    by-host : (s t : Bool) (w : ℕ) → bad (endBy false x) ≡ false → Shaped (endBy false x)
-        → HostOk (hostBy s t false w) (box .full) (messageAt box) → Keeps (readBy s t false x w)
-    by-host s t w fine shaped h = by-filling s t false w fine shaped (record {
+    by-host : (t : Bool) (w : ℕ) → bad (endBy false x) ≡ false → Shaped (endBy false x)
+        → TakeOk (hostBy t false w .stage) (gatheredBy t w) (box .full) (messageAt box) → HasRead t false w
+    by-host t w fine shaped h = by-filling t false w fine shaped (record {
       receiving = fill .receiving;
       register = fill .register;
       reading = h;
@@ -139,9 +155,8 @@ module _ {a b : Side} {ca cb : List Cell} {D E pa pb : ℕ} (i : Inv a b ca cb D
     })
 
     -- 3.2313: the take begins where the register is full
-    status-kept : bad (endBy false x) ≡ false → Shaped (endBy false x)
-        → Keeps (readBy true true false x (status (a .end)))
-    status-kept fine shaped = by-host true true w fine shaped (begins (box .full) full-is refl)
+    status-kept : bad (endBy false x) ≡ false → Shaped (endBy false x) → HasRead true false (status (a .end))
+    status-kept fine shaped = by-host true w fine shaped (begins (box .full) full-is refl)
       where
         w : ℕ
         w = status (a .end)
@@ -153,21 +168,21 @@ module _ {a b : Side} {ca cb : List Cell} {D E pa pb : ℕ} (i : Inv a b ca cb D
         reads =
             rw value-is
             (status-reads (num (box .full)) (num (box .toggle)) (box .number) (a .end .heard .health)
-            (num-le (box .full)) (num-le (box .toggle)) (good (a .end) (i .fit-a .good) .got)
+            (num-le (box .full)) (num-le (box .toggle)) (good (a .end) (i .fit-a .good) .number-in)
             (good (a .end) (i .fit-a .good) .partner))
 
-        full-is : odd (w / 32768) ≡ box .full
+        full-is : bit15 w ≡ box .full
         full-is = odd-is (box .full) (w / 32768) (reads .0)
 
-        begins : (f : Bool) → odd (w / 32768) ≡ f → box .full ≡ f
-            → HostOk (hostBy true true false w) (box .full) (messageAt box)
+        begins : (f : Bool) → bit15 w ≡ f → box .full ≡ f
+            → TakeOk (hostBy true false w .stage) (gatheredBy true w) (box .full) (messageAt box)
         begins true p q = rw p (record {
-          stage = omega arith;
+          within = omega arith;
           full = λ h. q;
           number = λ h. reads .1;
           bytes = λ h. refl;
         })
-        begins false p q = idle-ok _ _ _ (rw p)
+        begins false p q = no-take-ok _ _ _ _ (rw p)
 
     module _ (n : ℕ) (at : a .host .stage ≡ suc n) where
       some : 0 < a .host .stage
@@ -178,7 +193,7 @@ module _ {a b : Side} {ca cb : List Cell} {D E pa pb : ℕ} (i : Inv a b ca cb D
 
       -- the bytes read so far, with those of this register
       bytes-more : n ≤ 3
-          → a .host .bytes ++ (pair (box .bytes) n % 256 ∷ pair (box .bytes) n / 256 ∷ [])
+          → a .host .soFar .bytes ++ (pair (box .bytes) n % 256 ∷ pair (box .bytes) n / 256 ∷ [])
           ≡ take (2 * suc n) (box .bytes)
       bytes-more h =
           ap (λ (l : List ℕ). l ++ (pair (box .bytes) n % 256 ∷ pair (box .bytes) n / 256 ∷ []))
@@ -190,9 +205,9 @@ module _ {a b : Side} {ca cb : List Cell} {D E pa pb : ℕ} (i : Inv a b ca cb D
 
       -- 3.2314 to 3.2316
       middle-kept : n ≤ 2 → bad (endBy false x) ≡ false → Shaped (endBy false x)
-          → Keeps (readBy true false false x (pair (box .bytes) n))
-      middle-kept h fine shaped = by-host true false (pair (box .bytes) n) fine shaped (record {
-        stage = omega arith;
+          → HasRead false false (pair (box .bytes) n)
+      middle-kept h fine shaped = by-host false (pair (box .bytes) n) fine shaped (record {
+        within = omega arith;
         full = λ z. full;
         number = λ z. fill .reading .number some;
         bytes = λ z. bytes-more (omega arith) ∙ ap (λ (k : ℕ). take k (box .bytes)) now;
@@ -203,44 +218,44 @@ module _ {a b : Side} {ca cb : List Cell} {D E pa pb : ℕ} (i : Inv a b ca cb D
 
       -- 3.2317: the message is taken, and the register is empty
       last-kept : n ≡ 3 → bad (endBy true x) ≡ false → Shaped (endBy true x)
-          → Keeps (readBy true false true x (pair (box .bytes) n))
-      last-kept h fine shaped = by-filling true false true (pair (box .bytes) n) fine shaped (record {
+          → HasRead false true (pair (box .bytes) n)
+      last-kept h fine shaped = by-filling false true (pair (box .bytes) n) fine shaped (record {
         receiving = rw length-append (emptied-receiving full (fill .receiving));
         register = λ z. absurd (false≢true z);
-        reading = idle-ok _ _ _ refl;
+        reading = no-take-ok _ _ _ _ refl;
         entered-is = fill .entered-is;
         taken-is =
-            part-more nothing (b .accepted) (a .taken) (messageRead (a .host) (pair (box .bytes) n))
+            part-more noMessage (b .host .accepted) (a .host .taken) (gatheredBy false (pair (box .bytes) n))
             (fill .taken-is) below
             (fill .register full ∙ sym message-is);
       })
         where
-          all : a .host .bytes ++ (pair (box .bytes) n % 256 ∷ pair (box .bytes) n / 256 ∷ []) ≡ box .bytes
+          all : a .host .soFar .bytes ++ (pair (box .bytes) n % 256 ∷ pair (box .bytes) n / 256 ∷ []) ≡ box .bytes
           all =
               bytes-more (omega arith)
               ∙ take-all (2 * suc n) (box .bytes) (omega (arith, i .fit-a .shaped .eight-in))
 
-          message-is : messageRead (a .host) (pair (box .bytes) n) ≡ messageAt box
+          message-is : gatheredBy false (pair (box .bytes) n) ≡ messageAt box
           message-is = λ j. record { number = fill .reading .number some j; bytes = all j }
 
-          below : length (a .taken) < length (b .accepted)
+          below : length (a .host .taken) < length (b .host .accepted)
           below =
               let f : num (box .full) ≡ 1 = ap num full in
               omega (arith, fill .receiving .taken, i .ba .order, i .ba .holding .sending .accepted)
 
--- the tests of a register number that is not there
-side-outside : (r : ℕ) → outside r ≡ true → (receiveSide r ≡ false) × (eqb r 2317 ≡ false)
+-- a register number that is not there is not of the receive side
+side-outside : (r : ℕ) → outside r ≡ true → receiveSide r ≡ false
 side-outside r h = or-cases (ltb r 2308) (ltb 2317 r) low high h
   where
-    low : ltb r 2308 ≡ true → (receiveSide r ≡ false) × (eqb r 2317 ≡ false)
+    low : ltb r 2308 ≡ true → receiveSide r ≡ false
     low t =
         let p : r < 2308 = ltb-true r 2308 t in
-        (rw (lt-leb 2313 r (omega arith)), ne-eqb r 2317 (λ e. omega arith))
+        rw (lt-leb 2313 r (omega arith))
 
-    high : ltb 2317 r ≡ true → (receiveSide r ≡ false) × (eqb r 2317 ≡ false)
+    high : ltb 2317 r ≡ true → receiveSide r ≡ false
     high t =
         let p : 2317 < r = ltb-true 2317 r t in
-        (rw (le-leb 2313 r (omega arith), lt-leb r 2317 (omega arith)), ne-eqb r 2317 (λ e. omega arith))
+        rw (le-leb 2313 r (omega arith), lt-leb r 2317 (omega arith))
 
 module _ {a b : Side} {ca cb : List Cell} {D E pa pb : ℕ} (i : Inv a b ca cb D E pa pb) (r : ℕ) where
   abbrev Kept : Type 0
@@ -248,16 +263,13 @@ module _ {a b : Side} {ca cb : List Cell} {D E pa pb : ℕ} (i : Inv a b ca cb D
 
   -- a side after a read that gave g
   abbrev of : Got → Side
-  of g =
-      hostedAs a (g .end) (hostBy i (receiveSide r) (eqb r 2313) (eqb r 2317) (g .value)) (a .accepted)
-      (cond (eqb r 2317) (a .taken ++ (messageRead (a .host) (g .value) ∷ [])) (a .taken))
+  of g = withHost a (g .end) (cond (receiveSide r) (advance r (g .value) (a .host)) (a .host))
 
   outside-kept : outside r ≡ true → Kept
   unfolding readOf
   outside-kept h =
       let q : readOf (a .end) r ≡ record { answer = NoRegister; value = 0; end = a .end } = rw (i .fit-a .good, h) in
-      let t = side-outside r h in
-      subst (λ (g : Got). Keeps i (of g)) (sym q) (rw (t .0, t .1) i)
+      subst (λ (g : Got). Keeps i (of g)) (sym q) (rw (side-outside r h) i)
 
   module _ (inside : outside r ≡ false) where
     is : readOf (a .end) r ≡ record { answer = Done; value = valueOf (a .end) r; end = readEnd (a .end) r }
@@ -273,17 +285,20 @@ module _ {a b : Side} {ca cb : List Cell} {D E pa pb : ℕ} (i : Inv a b ca cb D
         subst (λ (u : Bool). Shaped (endBy i u (eqb r 2308))) q
         (subst (λ (g : Got). Shaped (g .end)) is (after-shaped (Call.read r) (a .end) (i .fit-a .shaped)))
 
+    -- the side after it, by the tests of the register number and the value read
+    abbrev readBy : Bool → Bool → Bool → ℕ → Side
+    readBy s t u w = withHost a (endBy i u (eqb r 2308)) (cond s (hostBy i t u w) (a .host))
+
     by : (s t u : Bool) (w : ℕ) → receiveSide r ≡ s → eqb r 2313 ≡ t → eqb r 2317 ≡ u → valueOf (a .end) r ≡ w
-        → Keeps i (readBy i s t u (eqb r 2308) w) → Kept
+        → Keeps i (readBy s t u w) → Kept
     by s t u w ps pt pu pw v =
         subst (λ (g : Got). Keeps i (of g)) (sym is)
-        (subst (λ (z : Side). Keeps i z) (λ j. readBy i (sym ps j) (sym pt j) (sym pu j) (eqb r 2308) (sym pw j)) v)
+        (subst (λ (z : Side). Keeps i z) (λ j. readBy (sym ps j) (sym pt j) (sym pu j) (sym pw j)) v)
 
     other : receiveSide r ≡ false → Kept
     other h =
         by false (eqb r 2313) false (valueOf (a .end) r) h refl no-last refl
-        (by-host i (eqb r 2308) false (eqb r 2313) (valueOf (a .end) r) (fine false no-last) (shaped false no-last)
-        (i .ba .filling .reading))
+        (other-kept i (eqb r 2308) (fine false no-last) (shaped false no-last))
       where
         no-last : eqb r 2317 ≡ false
         no-last = ne-eqb r 2317 (λ e. false≢true (sym h ∙ ap receiveSide e))
@@ -310,7 +325,7 @@ module _ {a b : Side} {ca cb : List Cell} {D E pa pb : ℕ} (i : Inv a b ca cb D
         (middle-kept i (eqb r 2308) n q (omega arith) (fine false u) (shaped false u))
 
     mine : receiveSide r ≡ true → r ≡ 2313 + a .host .stage → Kept
-    mine h e = go (a .host .stage) refl (i .ba .filling .reading .stage)
+    mine h e = go (a .host .stage) refl (i .ba .filling .reading .within)
       where
         go : (n : ℕ) → a .host .stage ≡ n → n ≤ 4 → Kept
         go zero q m =
@@ -320,7 +335,7 @@ module _ {a b : Side} {ca cb : List Cell} {D E pa pb : ℕ} (i : Inv a b ca cb D
             (status-kept i (eqb r 2308) (fine false u) (shaped false u))
         go (suc n) q m = word n h (omega arith) q m (eqb n 3) refl
 
-  pub read-kept : ruledCall (read r) a ≡ true → Inv (hosted (read r) a) b ca cb D E pa pb
+  pub read-kept : ruledCall (read r) (a .host) ≡ true → Inv (hosted (read r) a) b ca cb D E pa pb
   read-kept rule = go (outside r) (receiveSide r) refl refl
     where
       go : (x y : Bool) → outside r ≡ x → receiveSide r ≡ y → Kept

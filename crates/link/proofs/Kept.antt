@@ -1,8 +1,16 @@
--- The invariant holds after every run.
+-- The invariant holds after every run: each step keeps it, as the files of the folder show.
 --   host-kept    after a host's call by the rule
 --   Kept D E w   the world w has the invariant, for some cells
---   start-kept, step-kept, run-kept
+--   reset-kept, step-kept, run-kept   from reset, after an event, after a run
 -- Assumes nothing.
+pub mod Making
+pub mod Sending
+pub mod Entering
+pub mod Taking
+pub mod Slot
+pub mod Hosting
+pub mod Writing
+pub mod Reading
 use Prim.Native.Nat.{ℕ, suc, _*_, _+_}
 use mathlib.Core.Bool.{true, false, false≢true, true≢false}
 use mathlib.Core.List.{List, [], _∷_}
@@ -10,23 +18,23 @@ use mathlib.Core.Path.{_≡_, refl, sym, ap, _∙_}
 use native.Mathlib.Nat.{le-refl}
 use native.Mathlib.Omega.{arith}
 use lib.ListN.{length, replicate}
-use Rattle.frame.specs.Bits.{odd}
-use Rattle.endlaws.proofs.Base.{and-both}
-use Rattle.endlaws.proofs.Shapes.{reset-shaped}
+use Rattle.crc.specs.Bits.{odd}
+use Rattle.laws.proofs.Bools.{and-both}
+use Rattle.end.proofs.Guards.{reset-shaped}
 use Rattle.endlaws.proofs.Goods.{reset-good}
 use Rattle.protocol.specs.Steps.{num}
-use Rattle.link.specs.Link.{Side, World, Access, read, write, health, present, hosted, ruledCall}
-use Rattle.link.specs.Link.{Event, slot, atA, atB, resetSide, start, step, ruledStep, run, ruled}
-use Rattle.link.proofs.Words.{said, Says, word-says}
-use Rattle.link.proofs.Cells.{Cell, none}
-use Rattle.link.proofs.Way.{DataOk, AckOk, Way}
-use Rattle.link.proofs.Inv.{Fit, Inv, exchanged}
-use Rattle.link.proofs.SlotStep.{cellOf, slot-kept}
-use Rattle.link.proofs.Writing.{write-kept, health-kept}
-use Rattle.link.proofs.Reading.{read-kept}
+use Rattle.link.specs.Link.{Side, World, Access, read, write, health, present, hosted, ruledCall, Event, slot}
+use Rattle.link.specs.Link.{atA, atB, resetSide, resetWorld, step, ruledStep, run, ruled}
+use Rattle.link.proofs.Line.Words.{said, Says, word-says}
+use Rattle.link.proofs.Line.{Cell, silentCell}
+use Rattle.link.proofs.Invariant.OneWay.{DataOk, AckOk, Way}
+use Rattle.link.proofs.Invariant.{Fit, Inv, exchanged}
+use Rattle.link.proofs.Kept.Slot.{cellOf, slot-kept}
+use Rattle.link.proofs.Kept.Writing.{write-kept, health-kept}
+use Rattle.link.proofs.Kept.Reading.{read-kept}
 
 pub host-kept : {a b : Side} {ca cb : List Cell} {D E pa pb : ℕ} → Inv a b ca cb D E pa pb → (c : Access)
-    → ruledCall c a ≡ true → Inv (hosted c a) b ca cb D E pa pb
+    → ruledCall c (a .host) ≡ true → Inv (hosted c a) b ca cb D E pa pb
 host-kept v (read r) q = read-kept v r q
 host-kept v (write r x h) q = write-kept v r x h
 host-kept v (health h) q = health-kept v h
@@ -37,23 +45,23 @@ pub record Kept (D E : ℕ) (w : World) : Type 0 where
   pub cb : List Cell
   pub pa : ℕ
   pub pb : ℕ
-  pub slots : length ca ≡ length cb
+  pub level : length ca ≡ length cb
   pub inv : Inv (w .a) (w .b) ca cb D E pa pb
 
 -- before anything is sent: the cell that says nothing
 silent : Says (replicate 10 0) false false false false 0
 silent = word-says (replicate 10 0) false false false false 0 refl (omega arith) refl
 
-silent-data : DataOk [] (none .frame)
+silent-data : DataOk [] (silentCell .frame)
 silent-data = record { toggle = rw (silent .toggle); message = λ v. absurd (false≢true (sym (silent .valid) ∙ v)) }
 
-silent-ack : AckOk 0 (none .frame)
+silent-ack : AckOk 0 (silentCell .frame)
 silent-ack = record { upto = omega arith; some = rw (silent .ack) (omega arith); toggle = rw (silent .togack) }
 
 silent-rank : 2 * 0 + num (said (replicate 10 0) .valid) ≡ 0
 silent-rank = rw (silent .valid)
 
-reset-fit : Fit resetSide [] none
+reset-fit : Fit resetSide [] silentCell
 reset-fit = record {
   good = reset-good;
   shaped = reset-shaped;
@@ -64,7 +72,7 @@ reset-fit = record {
     places = λ i h. absurd (omega arith);
     same = λ i h. refl;
     ranks = λ i. le-refl _;
-    answers = λ i. le-refl _;
+    entries = λ i. le-refl _;
   };
   sync = record { place = λ h. absurd (omega arith); prefix = refl };
 }
@@ -83,7 +91,7 @@ reset-way D E = record {
     receiving = omega arith;
     register = λ h. absurd (false≢true h);
     reading = record {
-      stage = omega arith;
+      within = omega arith;
       full = λ h. absurd (omega arith);
       number = λ h. absurd (omega arith);
       bytes = λ h. absurd (omega arith);
@@ -97,19 +105,19 @@ reset-way D E = record {
   back = record { newest = omega arith; heard = omega arith; frames = λ i. silent-ack };
 }
 
-pub start-kept : (D E : ℕ) → Kept D E start
-start-kept D E = record {
+pub reset-kept : (D E : ℕ) → Kept D E resetWorld
+reset-kept D E = record {
   ca = [];
   cb = [];
   pa = 0;
   pb = 0;
-  slots = refl;
+  level = refl;
   inv = record { fit-a = reset-fit; fit-b = reset-fit; ab = reset-way D E; ba = reset-way E D };
 }
 
 -- the same cells
 with-inv : {D E : ℕ} {w x : World} (k : Kept D E w) → Inv (x .a) (x .b) (k .ca) (k .cb) D E (k .pa) (k .pb) → Kept D E x
-with-inv k v = record { ca = k .ca; cb = k .cb; pa = k .pa; pb = k .pb; slots = k .slots; inv = v }
+with-inv k v = record { ca = k .ca; cb = k .cb; pa = k .pa; pb = k .pb; level = k .level; inv = v }
 
 step-kept : (D E : ℕ) (e : Event) (w : World) → ruledStep e w ≡ true → Kept D E w → Kept D E (step D E e w)
 step-kept D E (slot ha hb) w q k = record {
@@ -117,7 +125,7 @@ step-kept D E (slot ha hb) w q k = record {
   cb = cellOf (w .b) (k .cb) ∷ k .cb;
   pa = _;
   pb = _;
-  slots = ap suc (k .slots);
+  level = ap suc (k .level);
   inv = slot-kept (k .inv) ha hb;
 }
 step-kept D E (atA c) w q k = with-inv k (host-kept (k .inv) c q)

@@ -1,4 +1,5 @@
 -- A side sends: the invariant is kept, with one cell more on its line, not yet arrived.
+--   no-less           a count that goes up by one, or not, does not fall
 --   same-sent         the frame goes on
 --   new-sent          a frame is made
 --   acknowledged-is   then all that the frame last heard acknowledges is acknowledged
@@ -18,23 +19,23 @@ use Rattle.frame.specs.Frame.{build}
 use Rattle.end.specs.declared.End.{End}
 use Rattle.end.specs.Good.{bad}
 use Rattle.end.specs.Sending.{frameStart, acked, stepOne, loads}
-use Rattle.endlaws.specs.Calls.{Call}
-use Rattle.endlaws.specs.Shape.{Shaped}
+use Rattle.end.specs.Calls.{Call}
+use Rattle.end.specs.Shape.{Shaped}
 use Rattle.endlaws.proofs.Shapes.{after-shaped}
 use Rattle.endlaws.proofs.Goods.{after-good}
 use Rattle.protocol.specs.Steps.{num}
 use Rattle.protocol.proofs.Keeps.{loads-must}
 use Rattle.link.specs.Link.{Side, sends}
-use Rattle.link.proofs.Cells.{Cell, frameAt, rank, Sender, line-push}
-use Rattle.link.proofs.Way.{onward-push, back-push, back-later}
-use Rattle.link.proofs.Inv.{Inv, exchanged, pa-loaded, loaded-next, heard-current}
-use Rattle.link.proofs.Sent.{sentAs, sends-as, tenOf, made, cellSent, sender-push}
-use Rattle.link.proofs.Making.{Makes, acked-is, made-first, made-long, made-holding}
-use Rattle.link.proofs.Making.{made-rank, made-data, made-ack}
+use Rattle.link.proofs.Line.{Cell, frameAt, rank, SenderOk, line-push}
+use Rattle.link.proofs.Line.Sent.{sentAs, sends-as, tenOf, made, cellSent, sender-push}
+use Rattle.link.proofs.Invariant.OneWay.{onward-push, back-push, back-later}
+use Rattle.link.proofs.Invariant.{Inv, exchanged, pa-loaded, loaded-next, heard-current}
+use Rattle.link.proofs.Kept.Making.{Makes, acked-is, made-first, made-long, made-holding, made-rank, made-data}
+use Rattle.link.proofs.Kept.Making.{made-ack}
 
-pub more : (b : Bool) (n : ℕ) → n ≤ cond b (n + 1) n
-more true n = omega arith
-more false n = omega arith
+pub no-less : (b : Bool) (n : ℕ) → n ≤ cond b (n + 1) n
+no-less true n = omega arith
+no-less false n = omega arith
 
 module _ {a b : Side} {ca cb : List Cell} {D E pa pb : ℕ} (v : Inv a b ca cb D E pa pb) where
   module _ (t : eqb (a .end .sender .position) 0 ≡ false) where
@@ -44,9 +45,9 @@ module _ {a b : Side} {ca cb : List Cell} {D E pa pb : ℕ} (v : Inv a b ca cb D
     abbrev next-position : ℕ
     next-position = sentAs false a .end .sender .position
 
-    same-sender : Sender next-position (a .end .sender .symbols) (sentAs false a .sent) (c ∷ ca)
+    same-sender : SenderOk next-position (a .end .sender .symbols) (sentAs false a .sent) (c ∷ ca)
     same-sender =
-        subst (λ (x : ℕ). Sender next-position (a .end .sender .symbols) (x ∷ a .sent) (c ∷ ca))
+        subst (λ (x : ℕ). SenderOk next-position (a .end .sender .symbols) (x ∷ a .sent) (c ∷ ca))
         (sym (ap (λ (l : List ℕ). getD l (a .end .sender .position) 0) holds))
         (sender-push (v .fit-a .sender) c (a .end .sender .symbols) holds)
       where
@@ -96,7 +97,7 @@ module _ {a b : Side} {ca cb : List Cell} {D E pa pb : ℕ} (v : Inv a b ca cb D
     abbrev loads-it : Bool
     loads-it = loads (stepOne (acked (a .end)) (a .end))
 
-    makes : Makes (a .end) (a .accepted) (a .loaded) (a .acknowledged) pa
+    makes : Makes (a .end) (a .host .accepted) (a .log .loadCount) (a .log .ackCount) pa
     makes = record {
       fine = v .fit-a .good;
       shaped = v .fit-a .shaped;
@@ -108,22 +109,23 @@ module _ {a b : Side} {ca cb : List Cell} {D E pa pb : ℕ} (v : Inv a b ca cb D
     at-zero : a .end .sender .position ≡ 0
     at-zero = eqb-true _ _ t
 
-    pub acknowledged-is : cond (acked (a .end)) (a .acknowledged + 1) (a .acknowledged) ≡ pa
+    pub acknowledged-is : cond (acked (a .end)) (a .log .ackCount + 1) (a .log .ackCount) ≡ pa
     acknowledged-is = acked-is makes
 
     -- with a message accepted and not acknowledged, it is loaded by now
-    pub new-loads : (k : ℕ) → k ≤ a .acknowledged → k < length (a .accepted) → k < sentAs true a .loaded
-    new-loads k h m = counted loads-it (loads-must k (made-first makes) (le-trans h (v .ab .hearing .from)) m)
+    pub new-loads : (k : ℕ) → k ≤ a .log .ackCount → k < length (a .host .accepted) → k < sentAs true a .log .loadCount
+    new-loads k h m = countWith loads-it (loads-must k (made-first makes) (le-trans h (v .ab .hearing .from)) m)
       where
-        counted : (l : Bool) → k < a .loaded + num l → k < cond l (a .loaded + 1) (a .loaded)
-        counted true g = g
-        counted false g = omega arith
+        countWith : (l : Bool) → k < a .log .loadCount + num l → k < cond l (a .log .loadCount + 1) (a .log .loadCount)
+        countWith true g = g
+        countWith false g = omega arith
 
-    new-rank : rank (made a) ≡ sentAs true a .acknowledged + sentAs true a .loaded
-    new-rank = made-rank makes (length (a .entered))
+    new-rank : rank (made a) ≡ sentAs true a .log .ackCount + sentAs true a .log .loadCount
+    new-rank = made-rank makes (length (a .log .entered))
 
     rank-grows : rank (frameAt ca 0) ≤ rank (made a)
-    rank-grows = sums (v .ab .onward .newest) new-rank (more acks (a .acknowledged)) (more loads-it (a .loaded))
+    rank-grows =
+        sums (v .ab .onward .newest) new-rank (no-less acks (a .log .ackCount)) (no-less loads-it (a .log .loadCount))
       where
         sums : {x y p q r s : ℕ} → x ≡ p + q → y ≡ r + s → p ≤ r → q ≤ s → x ≤ y
         sums e f g h = omega arith
@@ -131,10 +133,10 @@ module _ {a b : Side} {ca cb : List Cell} {D E pa pb : ℕ} (v : Inv a b ca cb D
     abbrev new-end : End
     new-end = sentAs true a .end
 
-    new-sender : Sender (new-end .sender .position) (new-end .sender .symbols) (sentAs true a .sent) (n ∷ ca)
+    new-sender : SenderOk (new-end .sender .position) (new-end .sender .symbols) (sentAs true a .sent) (n ∷ ca)
     unfolding frameStart
     new-sender =
-        subst (λ (p : ℕ). Sender (new-end .sender .position) (build (tenOf (a .end)))
+        subst (λ (p : ℕ). SenderOk (new-end .sender .position) (build (tenOf (a .end)))
         (getD (build (tenOf (a .end))) p 0 ∷ a .sent) (n ∷ ca)) (sym at-zero)
         (sender-push (v .fit-a .sender) n (build (tenOf (a .end))) refl)
 
@@ -162,11 +164,11 @@ module _ {a b : Side} {ca cb : List Cell} {D E pa pb : ℕ} (v : Inv a b ca cb D
           some = v .ab .hearing .some;
           toggle = v .ab .hearing .toggle;
         });
-        order = le-trans (v .ab .order) (more loads-it (a .loaded));
+        order = le-trans (v .ab .order) (no-less loads-it (a .log .loadCount));
         onward =
             onward-push (v .ab .onward) n _ _ new-rank
-            (made-data makes (length (a .entered)));
-        back = back-later (v .ab .back) _ (more acks (a .acknowledged));
+            (made-data makes (length (a .log .entered)));
+        back = back-later (v .ab .back) _ (no-less acks (a .log .ackCount));
       };
       ba = record {
         ha = v .ba .ha;
@@ -177,8 +179,8 @@ module _ {a b : Side} {ca cb : List Cell} {D E pa pb : ℕ} (v : Inv a b ca cb D
         onward = v .ba .onward;
         back =
             back-push (v .ba .back) n (le-refl _)
-            (made-ack makes (b .acknowledged) (b .loaded) (v .ba .filling .receiving)
-            (heard-current (exchanged v)) (v .ba .order) (loaded-next (exchanged v)) (made a .acked));
+            (made-ack makes (b .log .ackCount) (b .log .loadCount) (v .ba .filling .receiving)
+            (heard-current (exchanged v)) (v .ba .order) (loaded-next (exchanged v)) (made a .ackCount));
       };
     }
 

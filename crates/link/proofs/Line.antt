@@ -1,13 +1,20 @@
 -- What a side has sent, as cells: the frame and the place in it of each symbol, newest first.
---   Frame      the ten bytes it was built from, and two counts when it was made: own messages acknowledged, partner's
---              messages entered
---   Cell       a frame and a place in it
---   cellAt, frameAt   the cell of i slots ago; before the first one a cell that says nothing
---   rank f     twice the acknowledged count, and one more for Valid: it never falls along a line
---   Line       the cells of a line: whole frames, place after place, in order
---   Sender     a sender's position and symbols, and what it sent, are those of its line
---   line-push  one cell more
+--   Frame        the ten bytes it was built from, and two counts when it was made: own messages acknowledged, partner's
+--                messages entered
+--   Cell         a frame and a place in it
+--   silentCell   what stands before the first cell: it says nothing
+--   cellAt, frameAt   the cell of i slots ago, and its frame
+--   rank f       twice the acknowledged count, and one more for Valid: it never falls along a line
+--   symbolIn c   the symbol at that place
+--   Line         the cells of a line: whole frames, place after place, in order
+--   SenderOk     a sender's position and symbols, and what it sent, are those of its line
+--   falls        what never rises with age is at most what it is now
+--   line-push    one cell more
 -- Assumes nothing.
+pub mod Words
+pub mod Sent
+pub mod Arriving
+pub mod Collecting
 use Prim.Native.Nat.{ℕ, zero, suc, _+_, _*_, _%_, _≤_, _<_}
 use mathlib.Core.List.{List, _∷_, map}
 use mathlib.Core.Path.{_≡_}
@@ -16,28 +23,28 @@ use native.Mathlib.Omega.{arith}
 use lib.ListN.{length, getD, replicate}
 use Rattle.frame.specs.Frame.{build}
 use Rattle.protocol.specs.Steps.{num}
-use Rattle.link.proofs.Words.{said}
+use Rattle.link.proofs.Line.Words.{said}
 
 pub record Frame : Type 0 where
   pub ten : List ℕ
-  pub acked : ℕ
-  pub entered : ℕ
+  pub ackCount : ℕ
+  pub enterCount : ℕ
 
 pub record Cell : Type 0 where
   pub frame : Frame
   pub place : ℕ
 
-abbrev pub none : Cell
-none = record { frame = record { ten = replicate 10 0; acked = 0; entered = 0 }; place = 0 }
+abbrev pub silentCell : Cell
+silentCell = record { frame = record { ten = replicate 10 0; ackCount = 0; enterCount = 0 }; place = 0 }
 
 abbrev pub cellAt : List Cell → ℕ → Cell
-cellAt cs i = getD cs i none
+cellAt cs i = getD cs i silentCell
 
 abbrev pub frameAt : List Cell → ℕ → Frame
 frameAt cs i = cellAt cs i .frame
 
 abbrev pub rank : Frame → ℕ
-rank f = 2 * f .acked + num (said (f .ten) .valid)
+rank f = 2 * f .ackCount + num (said (f .ten) .valid)
 
 abbrev pub symbolIn : Cell → ℕ
 symbolIn c = getD (build (c .frame .ten)) (c .place) 0
@@ -48,28 +55,27 @@ pub record Line (cs : List Cell) : Type 0 where
   pub places : (i : ℕ) → i < length cs → (cellAt cs i .place + (i + 1)) % 12 ≡ length cs % 12
   pub same : (i : ℕ) → 0 < cellAt cs i .place → frameAt cs (suc i) ≡ frameAt cs i
   pub ranks : (i : ℕ) → rank (frameAt cs (suc i)) ≤ rank (frameAt cs i)
-  pub answers : (i : ℕ) → frameAt cs (suc i) .entered ≤ frameAt cs i .entered
+  pub entries : (i : ℕ) → frameAt cs (suc i) .enterCount ≤ frameAt cs i .enterCount
 
-pub record Sender (p : ℕ) (l sent : List ℕ) (cs : List Cell) : Type 0 where
+pub record SenderOk (p : ℕ) (l sent : List ℕ) (cs : List Cell) : Type 0 where
   pub position : p ≡ length cs % 12
   pub current : 0 < p → l ≡ build (frameAt cs 0 .ten)
   pub symbols : sent ≡ map symbolIn cs
 
--- what never rises with age is at most what it is now
 pub falls : (f : ℕ → ℕ) → ((i : ℕ) → f (suc i) ≤ f i) → (i : ℕ) → f i ≤ f 0
 falls f h zero = le-refl (f 0)
 falls f h (suc i) = le-trans (h i) (falls f h i)
 
 pub line-push : {cs : List Cell} → Line cs → (c : Cell) → c .place ≡ length cs % 12 → length (c .frame .ten) ≡ 10
     → (0 < c .place → frameAt cs 0 ≡ c .frame) → rank (frameAt cs 0) ≤ rank (c .frame)
-    → frameAt cs 0 .entered ≤ c .frame .entered → Line (c ∷ cs)
-line-push {cs} line c at long same ranks answers = record {
+    → frameAt cs 0 .enterCount ≤ c .frame .enterCount → Line (c ∷ cs)
+line-push {cs} line c at long same ranks entries = record {
   ten = tens;
   within = withins;
   places = at-places;
   same = sames;
   ranks = all-ranks;
-  answers = all-answers;
+  entries = all-entries;
 }
   where
     tens : (i : ℕ) → length (frameAt (c ∷ cs) i .ten) ≡ 10
@@ -92,6 +98,6 @@ line-push {cs} line c at long same ranks answers = record {
     all-ranks zero = ranks
     all-ranks (suc i) = line .ranks i
 
-    all-answers : (i : ℕ) → frameAt (c ∷ cs) (suc i) .entered ≤ frameAt (c ∷ cs) i .entered
-    all-answers zero = answers
-    all-answers (suc i) = line .answers i
+    all-entries : (i : ℕ) → frameAt (c ∷ cs) (suc i) .enterCount ≤ frameAt (c ∷ cs) i .enterCount
+    all-entries zero = entries
+    all-entries (suc i) = line .entries i

@@ -1,9 +1,10 @@
 -- A side sends: the next cell of its line.
---   sentAs b s     the side s after its slot's sending, where b says that a new frame is made
---   tenOf e        the ten bytes of the frame that an end makes
---   made s         that frame
+--   sentAs b s        the side s after its slot's sending, where b says that a new frame is made
+--   sends-as          it is what the side becomes
+--   tenOf e           the ten bytes of the frame that an end makes
+--   made s            that frame
 --   cellSent b s cs   the cell that the side sends
---   sender-push    the sender after it
+--   sender-push       the sender after it
 -- Assumes nothing.
 use Prim.Native.Nat.{ℕ, suc, _+_, _%_}
 use mathlib.Core.Bool.{Bool, true, false, cond, _&&_}
@@ -19,18 +20,18 @@ use Rattle.end.specs.Good.{bad}
 use Rattle.end.specs.Sending.{acked, stepOne, loads, tenBytes, movedOn, started, symbolAt}
 use Rattle.endlaws.proofs.Done.{send-good}
 use Rattle.link.specs.Link.{Side, sends}
-use Rattle.link.proofs.Cells.{Frame, Cell, frameAt, symbolIn, Sender}
+use Rattle.link.proofs.Line.{Frame, Cell, frameAt, symbolIn, SenderOk}
 
 abbrev pub sentAs : Bool → Side → Side
 sentAs b s = record {
   end = movedOn (started b (s .end));
   sent = symbolAt (started b (s .end)) ∷ s .sent;
   host = s .host;
-  accepted = s .accepted;
-  loaded = cond (b && loads (stepOne (acked (s .end)) (s .end))) (s .loaded + 1) (s .loaded);
-  acknowledged = cond (b && acked (s .end)) (s .acknowledged + 1) (s .acknowledged);
-  entered = s .entered;
-  taken = s .taken;
+  log = record {
+    loadCount = cond (b && loads (stepOne (acked (s .end)) (s .end))) (s .log .loadCount + 1) (s .log .loadCount);
+    ackCount = cond (b && acked (s .end)) (s .log .ackCount + 1) (s .log .ackCount);
+    entered = s .log .entered;
+  };
 }
 
 pub sends-as : (s : Side) (b : Bool) → bad (s .end) ≡ false → eqb (s .end .sender .position) 0 ≡ b
@@ -43,8 +44,8 @@ tenOf e = tenBytes (acked e) (loads (stepOne (acked e) e)) (stepOne (acked e) e)
 abbrev pub made : Side → Frame
 made s = record {
   ten = tenOf (s .end);
-  acked = cond (acked (s .end)) (s .acknowledged + 1) (s .acknowledged);
-  entered = length (s .entered);
+  ackCount = cond (acked (s .end)) (s .log .ackCount + 1) (s .log .ackCount);
+  enterCount = length (s .log .entered);
 }
 
 abbrev pub cellSent : Bool → Side → List Cell → Cell
@@ -59,8 +60,8 @@ next-position p n e = go (eqb p 11) refl
     go true t = omega (arith, eqb-true p 11 t)
     go false t = omega (arith, eqb-false p 11 t)
 
-pub sender-push : {p : ℕ} {l sent : List ℕ} {cs : List Cell} → Sender p l sent cs → (c : Cell) (l′ : List ℕ)
-    → l′ ≡ build (c .frame .ten) → Sender (cond (eqb p 11) 0 (p + 1)) l′ (symbolIn c ∷ sent) (c ∷ cs)
+pub sender-push : {p : ℕ} {l sent : List ℕ} {cs : List Cell} → SenderOk p l sent cs → (c : Cell) (l′ : List ℕ)
+    → l′ ≡ build (c .frame .ten) → SenderOk (cond (eqb p 11) 0 (p + 1)) l′ (symbolIn c ∷ sent) (c ∷ cs)
 sender-push {p} {cs = cs} s c l′ is = record {
   position = next-position p (length cs) (s .position);
   current = λ h. is;

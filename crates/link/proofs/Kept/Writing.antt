@@ -15,28 +15,28 @@ use lib.Seq.{getD-append-seam}
 use Rattle.answer.specs.Number.{numberOf}
 use Rattle.answer.specs.declared.Answer.{Answer}
 use Rattle.answer.specs.declared.Answer.the-variants.{Done, NoRegister, ReadOnly, ReadOnlyBits, Blocked}
-use Rattle.frame.specs.Bits.{odd}
 use Rattle.end.specs.declared.End.{End}
 use Rattle.end.specs.declared.Outbox.{Outbox}
 use Rattle.end.specs.declared.Next.{Next}
 use Rattle.end.specs.Good.{bad}
-use Rattle.end.specs.Registers.{outside, readOnly, readOnlyBits, blocked, writeControl, writeBytes, pickOutbox, written}
-use Rattle.end.specs.Registers.{writeOf, withHealth, healthOf}
+use Rattle.end.specs.Registers.{outside, readOnly, readOnlyBits, blocked, writeControl, writeBytes, pickOutbox}
+use Rattle.end.specs.Registers.{written, writeOf, withHealth, healthOf}
 use Rattle.end.proofs.RegisterLaws.{write-outside, write-only, write-bits, write-blocked, write-done}
-use Rattle.endlaws.specs.Calls.{Call}
-use Rattle.endlaws.specs.Shape.{Shaped}
-use Rattle.endlaws.proofs.Base.{cond-true, cond-false}
+use Rattle.end.specs.Calls.{Call}
+use Rattle.end.specs.Shape.{Shaped}
+use Rattle.laws.proofs.Bools.{cond-true}
 use Rattle.endlaws.proofs.Shapes.{after-shaped}
 use Rattle.endlaws.proofs.Goods.{after-good}
 use Rattle.protocol.specs.Steps.{num}
 use Rattle.protocol.proofs.Keeps.{Sending, sent-below}
-use Rattle.link.specs.Link.{Message, Side, write, health, hosted, acceptsNow, messageOut}
-use Rattle.link.proofs.Views.{outOf}
-use Rattle.link.proofs.Cells.{Cell}
-use Rattle.link.proofs.Logs.{length-more}
-use Rattle.link.proofs.Way.{nothing, Holding}
-use Rattle.link.proofs.Inv.{Inv}
-use Rattle.link.proofs.HostStep.{endAs, hostedAs, hosted-as, grown-carries, grown-filling}
+use Rattle.link.specs.Link.{Message, Side, messageOut, write, health, bit15, acceptsNow, accepting, withHost}
+use Rattle.link.specs.Link.{hosted}
+use Rattle.link.proofs.Line.{Cell}
+use Rattle.link.proofs.Invariant.Views.{outOf}
+use Rattle.link.proofs.Invariant.Logs.{length-more}
+use Rattle.link.proofs.Invariant.OneWay.{noMessage, Holding}
+use Rattle.link.proofs.Invariant.{Inv}
+use Rattle.link.proofs.Kept.Hosting.{endAs, hosted-as, grown-carries, grown-filling}
 
 module _ {a b : Side} {ca cb : List Cell} {D E pa pb : ℕ} (i : Inv a b ca cb D E pa pb) (r v : ℕ)
     (sixteen : v < 65536) where
@@ -51,12 +51,8 @@ module _ {a b : Side} {ca cb : List Cell} {D E pa pb : ℕ} (i : Inv a b ca cb D
       accepts-not : acceptsNow r v (a .end) ≡ false
       accepts-not = rw (q, n, and-false, and-false)
 
-      accepted : hosted (write r v sixteen) a .accepted ≡ a .accepted
-      accepted =
-          cond-false (a .accepted ++ (messageOut (writeOf (a .end) r v .end) ∷ [])) (a .accepted) accepts-not
-
       is : hosted (write r v sixteen) a ≡ a
-      is = λ j. hostedAs a (q j .end) (a .host) (accepted j) (a .taken)
+      is = λ j. withHost a (q j .end) (accepting (accepts-not j) (messageOut (writeOf (a .end) r v .end)) (a .host))
 
   -- the transmit registers after a write that is done, where t says that it was to 3.2308
   abbrev outBy : Bool → Outbox
@@ -67,18 +63,18 @@ module _ {a b : Side} {ca cb : List Cell} {D E pa pb : ℕ} (i : Inv a b ca cb D
 
   -- the pending bit after a write to 3.2308
   abbrev pend : Bool
-  pend = cond (a .end .outbox .pending) true (odd (v / 32768))
+  pend = cond (a .end .outbox .pending) true (bit15 v)
 
-  pend-is : (p k : Bool) → a .end .outbox .pending ≡ p → odd (v / 32768) ≡ k → pend ≡ cond p true k
+  pend-is : (p k : Bool) → a .end .outbox .pending ≡ p → bit15 v ≡ k → pend ≡ cond p true k
   pend-is p k f g = rw (f, g)
 
-  abbrev old : Sending (length (a .accepted)) (a .loaded) (a .acknowledged) (outOf (a .end))
+  abbrev old : Sending (length (a .host .accepted)) (a .log .loadCount) (a .log .ackCount) (outOf (a .end))
   old = i .ab .holding .sending
 
   sending-same : pend ≡ a .end .outbox .pending
-      → Sending (length (a .accepted)) (a .loaded) (a .acknowledged) (outOf (endBy true))
+      → Sending (length (a .host .accepted)) (a .log .loadCount) (a .log .ackCount) (outOf (endBy true))
   sending-same z = record {
-    accepted = old .accepted ∙ ap (λ (x : Bool). a .loaded + num x) (sym z);
+    accepted = old .accepted ∙ ap (λ (x : Bool). a .log .loadCount + num x) (sym z);
     loaded = old .loaded;
     toggle = old .toggle;
     register = old .register;
@@ -87,14 +83,14 @@ module _ {a b : Side} {ca cb : List Cell} {D E pa pb : ℕ} (i : Inv a b ca cb D
   module _ (fine : (t : Bool) → eqb r 2308 ≡ t → bad (endBy t) ≡ false)
       (shaped : (t : Bool) → eqb r 2308 ≡ t → Shaped (endBy t)) where
     -- the same log: nothing new is pending
-    kept : (t : Bool) → eqb r 2308 ≡ t → Holding (endBy t) (a .accepted) (a .loaded) (a .acknowledged)
-        → Keeps (hostedAs a (endBy t) (a .host) (a .accepted) (a .taken))
+    kept : (t : Bool) → eqb r 2308 ≡ t → Holding (endBy t) (a .host .accepted) (a .log .loadCount) (a .log .ackCount)
+        → Keeps (withHost a (endBy t) (a .host))
     kept t q h =
-        hosted-as i (a .end .sender .health) (outBy t) (a .end .inbox) (a .host) (a .accepted) (a .taken) (fine t q)
-        (shaped t q) h (i .ba .filling) (i .ab .filling) (i .ab .onward .frames)
+        hosted-as i (a .end .sender .health) (outBy t) (a .end .inbox) (a .host) (fine t q) (shaped t q) h
+        (i .ba .filling) (i .ab .filling) (i .ab .onward .frames)
 
     bytes-kept : eqb r 2308 ≡ false → a .end .outbox .pending ≡ false
-        → Keeps (hostedAs a (endBy false) (a .host) (a .accepted) (a .taken))
+        → Keeps (withHost a (endBy false) (a .host))
     bytes-kept q p = kept false q (record {
       sending = i .ab .holding .sending;
       valid = i .ab .holding .valid;
@@ -104,7 +100,7 @@ module _ {a b : Side} {ca cb : List Cell} {D E pa pb : ℕ} (i : Inv a b ca cb D
 
     -- 3.2308, one pending: only PingTx changes
     ping-kept : eqb r 2308 ≡ true → a .end .outbox .pending ≡ true
-        → Keeps (hostedAs a (endBy true) (a .host) (a .accepted) (a .taken))
+        → Keeps (withHost a (endBy true) (a .host))
     ping-kept q p = kept true q (record {
       sending = sending-same (cond-true true _ p ∙ sym p);
       valid = i .ab .holding .valid;
@@ -115,10 +111,10 @@ module _ {a b : Side} {ca cb : List Cell} {D E pa pb : ℕ} (i : Inv a b ca cb D
       sent = i .ab .holding .sent;
     })
 
-    -- nothing pending and bit 15 clear
-    clear-kept : eqb r 2308 ≡ true → a .end .outbox .pending ≡ false → odd (v / 32768) ≡ false
-        → Keeps (hostedAs a (endBy true) (a .host) (a .accepted) (a .taken))
-    clear-kept q p k = kept true q (record {
+    -- nothing pending and bit 15 not set
+    unset-kept : eqb r 2308 ≡ true → a .end .outbox .pending ≡ false → bit15 v ≡ false
+        → Keeps (withHost a (endBy true) (a .host))
+    unset-kept q p k = kept true q (record {
       sending = sending-same (pend-is false false p k ∙ sym p);
       valid = i .ab .holding .valid;
       pending = λ z. absurd (false≢true (sym (pend-is false false p k) ∙ z));
@@ -126,49 +122,48 @@ module _ {a b : Side} {ca cb : List Cell} {D E pa pb : ℕ} (i : Inv a b ca cb D
     })
 
     -- nothing pending and bit 15 set: a message is accepted
-    accept-kept : eqb r 2308 ≡ true → a .end .outbox .pending ≡ false → odd (v / 32768) ≡ true
-        → Keeps (hostedAs a (endBy true) (a .host) (a .accepted ++ (messageOut (endBy true) ∷ [])) (a .taken))
+    accept-kept : eqb r 2308 ≡ true → a .end .outbox .pending ≡ false → bit15 v ≡ true
+        → Keeps (withHost a (endBy true) (accepting true (messageOut (endBy true)) (a .host)))
     accept-kept q p k =
-        hosted-as i (a .end .sender .health) (outBy true) (a .end .inbox) (a .host) (a .accepted ++ (m ∷ [])) (a .taken)
+        hosted-as i (a .end .sender .health) (outBy true) (a .end .inbox) (accepting true m (a .host))
         (fine true q) (shaped true q) hold (i .ba .filling)
-        (grown-filling (a .accepted) m (omega (arith, i .ab .order, old .accepted)) (i .ab .filling))
-        (λ j. grown-carries (a .accepted) m (i .ab .onward .frames j))
+        (grown-filling (a .host .accepted) m (omega (arith, i .ab .order, old .accepted)) (i .ab .filling))
+        (λ j. grown-carries (a .host .accepted) m (i .ab .onward .frames j))
       where
         m : Message
         m = messageOut (endBy true)
 
-        all : length (a .accepted) ≡ a .loaded
-        all = old .accepted ∙ ap (λ (x : Bool). a .loaded + num x) p ∙ add-zero (a .loaded)
+        all : length (a .host .accepted) ≡ a .log .loadCount
+        all = old .accepted ∙ ap (λ (x : Bool). a .log .loadCount + num x) p ∙ add-zero (a .log .loadCount)
 
-        hold : Holding (endBy true) (a .accepted ++ (m ∷ [])) (a .loaded) (a .acknowledged)
+        hold : Holding (endBy true) (a .host .accepted ++ (m ∷ [])) (a .log .loadCount) (a .log .ackCount)
         hold = record {
           sending = record {
             accepted =
-                length-more (a .accepted) m
+                length-more (a .host .accepted) m
                 ∙ ap suc all
-                ∙ sym (add-one (a .loaded))
-                ∙ ap (λ (x : Bool). a .loaded + num x) (sym (pend-is false true p k));
+                ∙ sym (add-one (a .log .loadCount))
+                ∙ ap (λ (x : Bool). a .log .loadCount + num x) (sym (pend-is false true p k));
             loaded = old .loaded;
             toggle = old .toggle;
             register = old .register;
           };
           valid = i .ab .holding .valid;
           pending =
-              λ z. ap (λ (n : ℕ). getD (a .accepted ++ (m ∷ [])) n nothing) (sym all)
-              ∙ getD-append-seam (a .accepted) m [] nothing;
+              λ z. ap (λ (n : ℕ). getD (a .host .accepted ++ (m ∷ [])) n noMessage) (sym all)
+              ∙ getD-append-seam (a .host .accepted) m [] noMessage;
           sent =
-              λ z. List·getD-append (a .accepted) (m ∷ []) nothing (a .acknowledged) (sent-below old z)
+              λ z. List·getD-append (a .host .accepted) (m ∷ []) noMessage (a .log .ackCount) (sent-below old z)
               ∙ i .ab .holding .sent z;
         }
 
-    by-tests : (t k p : Bool) → eqb r 2308 ≡ t → odd (v / 32768) ≡ k → a .end .outbox .pending ≡ p
+    by-tests : (t k p : Bool) → eqb r 2308 ≡ t → bit15 v ≡ k → a .end .outbox .pending ≡ p
         → (p && (not t || k)) ≡ false
-        → Keeps (hostedAs a (endBy t) (a .host)
-        (cond (t && k) (a .accepted ++ (messageOut (endBy t) ∷ [])) (a .accepted)) (a .taken))
+        → Keeps (withHost a (endBy t) (accepting (t && k) (messageOut (endBy t)) (a .host)))
     by-tests true true true qt qk qp n = absurd (true≢false n)
     by-tests true true false qt qk qp n = accept-kept qt qp qk
     by-tests true false true qt qk qp n = ping-kept qt qp
-    by-tests true false false qt qk qp n = clear-kept qt qp qk
+    by-tests true false false qt qk qp n = unset-kept qt qp qk
     by-tests false k true qt qk qp n = absurd (true≢false n)
     by-tests false k false qt qk qp n = bytes-kept qt qp
 
@@ -176,13 +171,12 @@ module _ {a b : Side} {ca cb : List Cell} {D E pa pb : ℕ} (i : Inv a b ca cb D
       → Keeps (hosted (write r v sixteen) a)
   done n q =
       subst (λ (x : Next). Keeps (of x)) (sym q)
-      (rw and-true (by-tests fine shaped (eqb r 2308) (odd (v / 32768)) (a .end .outbox .pending) refl refl refl n))
+      (rw and-true (by-tests fine shaped (eqb r 2308) (bit15 v) (a .end .outbox .pending) refl refl refl n))
     where
       of : Next → Side
       of x =
-          hostedAs a (x .end) (a .host)
-          (cond (eqb r 2308 && (odd (v / 32768) && eqb (numberOf (x .answer)) 0))
-          (a .accepted ++ (messageOut (x .end) ∷ [])) (a .accepted)) (a .taken)
+          withHost a (x .end)
+          (accepting (eqb r 2308 && (bit15 v && eqb (numberOf (x .answer)) 0)) (messageOut (x .end)) (a .host))
 
       fine : (t : Bool) → eqb r 2308 ≡ t → bad (endBy t) ≡ false
       fine t f =
@@ -214,7 +208,7 @@ unfolding healthOf
 health-kept {a} {b} {ca} {cb} {D} {E} {pa} {pb} i h = go (ltb 3 h) refl
   where
     of : End → Side
-    of x = hostedAs a x (a .host) (a .accepted) (a .taken)
+    of x = withHost a x (a .host)
 
     go : (t : Bool) → ltb 3 h ≡ t → Inv (hosted (health h) a) b ca cb D E pa pb
     go true f =
@@ -223,7 +217,7 @@ health-kept {a} {b} {ca} {cb} {D} {E} {pa} {pb} i h = go (ltb 3 h) refl
     go false f =
         let q : healthOf (a .end) h .end ≡ withHealth (a .end) h = rw (i .fit-a .good, f) in
         subst (λ (x : End). Inv (of x) b ca cb D E pa pb) (sym q)
-        (hosted-as i h (a .end .outbox) (a .end .inbox) (a .host) (a .accepted) (a .taken)
+        (hosted-as i h (a .end .outbox) (a .end .inbox) (a .host)
         (subst (λ (x : End). bad x ≡ false) q (after-good (Call.health h) (a .end) (i .fit-a .good)))
         (subst (λ (x : End). Shaped x) q (after-shaped (Call.health h) (a .end) (i .fit-a .shaped)))
         (i .ab .holding) (i .ba .filling) (i .ab .filling) (i .ab .onward .frames))

@@ -1,5 +1,8 @@
 -- A frame is made: what it says, and what the sending half holds after it.
---   made-says        the words of the frame that an end makes
+--   one-more         a count that goes up by one, or not
+--   Makes            an end that is about to make a frame
+--   made-long, made-says   its length, and its words
+--   acked-is         all that the frame last heard acknowledges is acknowledged by it
 --   made-first       the sending half after step 1
 --   made-holding     the sending half after steps 1 to 4
 --   made-rank, made-data, made-ack   what the frame carries and acknowledges
@@ -13,10 +16,12 @@ use native.Mathlib.Omega.{arith}
 use lib.ListN.{length, getD, take, drop, length-map, length-take, length-drop}
 use Rattle.frame.specs.Frame.{build}
 use Rattle.end.specs.declared.End.{End}
-use Rattle.end.specs.Good.{bad, above}
+use Rattle.end.specs.Good.{bad}
+use Rattle.laws.specs.Above.{above}
 use Rattle.end.specs.Sending.{acked, stepOne, loads, oldValid, oldNumber, oldBytes, frameStart, movedOn, started}
-use Rattle.endlaws.specs.Shape.{Shaped}
-use Rattle.endlaws.proofs.Base.{and-both, above-data}
+use Rattle.end.specs.Shape.{Shaped}
+use Rattle.laws.proofs.Bools.{and-both}
+use Rattle.frame.proofs.FrameLaws.{above-data}
 use Rattle.endlaws.proofs.Shapes.{ten-length}
 use Rattle.endlaws.proofs.Goods.{good}
 use Rattle.protocol.specs.Steps.{num}
@@ -24,17 +29,16 @@ use Rattle.protocol.proofs.Keeps.{Sending, Hearing, Receiving, acks-heard, step
 use Rattle.protocol.proofs.Keeps.{valid-sent, valid-counts, sent-below, acknowledge-made}
 use Rattle.link.specs.Link.{Message, messageOut}
 use Rattle.link.specs.Demand.{messageSent}
-use Rattle.link.proofs.Views.{outOf, inOf}
-use Rattle.link.proofs.Words.{said, messageIs, Says, word-says, bytes-built}
-use Rattle.link.proofs.Cells.{Frame, rank}
-use Rattle.link.proofs.Way.{nothing, DataOk, AckOk, Holding}
-use Rattle.link.proofs.Sent.{tenOf}
+use Rattle.link.proofs.Line.Words.{said, messageIs, Says, word-says, bytes-built}
+use Rattle.link.proofs.Line.{Frame, rank}
+use Rattle.link.proofs.Line.Sent.{tenOf}
+use Rattle.link.proofs.Invariant.Views.{outOf, inOf}
+use Rattle.link.proofs.Invariant.OneWay.{noMessage, DataOk, AckOk, Holding}
 
-more : (b : Bool) (n : ℕ) → cond b (n + 1) n ≡ num b + n
-more true n = omega arith
-more false n = omega arith
+one-more : (b : Bool) (n : ℕ) → cond b (n + 1) n ≡ num b + n
+one-more true n = omega arith
+one-more false n = omega arith
 
--- an end that is about to make a frame
 pub record Makes (e : End) (acc : List Message) (ld ackd he : ℕ) : Type 0 where
   pub fine : bad e ≡ false
   pub shaped : Shaped e
@@ -92,7 +96,7 @@ module _ {e : End} {acc : List Message} {ld ackd he : ℕ} (m : Makes e acc ld a
   acks-is = acks-heard (e .heard .ack) (e .heard .togack) (e .sender .toggle) (m .hearing) (m .holding .sending .toggle)
 
   pub acked-is : cond (acked e) (ackd + 1) ackd ≡ he
-  acked-is = more (acked e) ackd ∙ acks-is
+  acked-is = one-more (acked e) ackd ∙ acks-is
 
   pub made-first : Sending (length acc) ld he (outOf (stepOne (acked e) e))
   made-first = stepOne-sending (acked e) (m .holding .sending) acks-is (m .upto)
@@ -105,26 +109,26 @@ module _ {e : End} {acc : List Message} {ld ackd he : ℕ} (m : Makes e acc ld a
       ∙ valid-sent (acked e) (outOf e)
 
   pending-is : (l : Bool) → loads one ≡ l → cond l false (e .outbox .pending) ≡ true
-      → getD acc (ld + num l) nothing ≡ messageOut e
+      → getD acc (ld + num l) noMessage ≡ messageOut e
   pending-is true h p = absurd (false≢true p)
   pending-is false h p = rw add-zero (m .holding .pending p)
 
   sent-is : (l a : Bool) → loads one ≡ l → acked e ≡ a → cond l false (cond a true (e .sender .ready)) ≡ false
-      → getD acc he nothing ≡ cond l (messageOut e) (messageSent e)
+      → getD acc he noMessage ≡ cond l (messageOut e) (messageSent e)
   sent-is true a h k p =
       let both = and-both (e .outbox .pending) (one .sender .ready) h in
       let r : num (one .sender .ready) ≡ 1 = ap num (both .1) in
       let f : ld + num (one .sender .ready) ≡ he + 1 = made-first .loaded in
       let q : he ≡ ld = omega arith in
-      ap (λ (n : ℕ). getD acc n nothing) q ∙ m .holding .pending (both .0)
+      ap (λ (n : ℕ). getD acc n noMessage) q ∙ m .holding .pending (both .0)
   sent-is false true h k p = absurd (true≢false p)
   sent-is false false h k p =
       let q : he ≡ ackd = sym acks-is ∙ ap (λ (b : Bool). num b + ackd) k ∙ zero-add ackd in
-      ap (λ (n : ℕ). getD acc n nothing) q ∙ m .holding .sent p
+      ap (λ (n : ℕ). getD acc n noMessage) q ∙ m .holding .sent p
 
   pub made-holding : Holding made-end acc (cond (loads one) (ld + 1) ld) (cond (acked e) (ackd + 1) ackd)
   unfolding frameStart
-  made-holding = rw (acked-is, more (loads one) ld, add-comm (num (loads one)) ld) (record {
+  made-holding = rw (acked-is, one-more (loads one) ld, add-comm (num (loads one)) ld) (record {
     sending = stepThree-sending made-first;
     valid = valid-is;
     pending = pending-is (loads one) refl;
@@ -133,7 +137,7 @@ module _ {e : End} {acc : List Message} {ld ackd he : ℕ} (m : Makes e acc ld a
 
   -- the frame as a cell carries it, with the counts after it
   abbrev frame : ℕ → Frame
-  frame n = record { ten = tenOf e; acked = cond (acked e) (ackd + 1) ackd; entered = n }
+  frame n = record { ten = tenOf e; ackCount = cond (acked e) (ackd + 1) ackd; enterCount = n }
 
   valid-end : said (tenOf e) .valid ≡ not (made-end .sender .ready)
   unfolding frameStart
@@ -156,14 +160,14 @@ module _ {e : End} {acc : List Message} {ld ackd he : ℕ} (m : Makes e acc ld a
       now = cond (acked e) (ackd + 1) ackd
 
       at : (r : Bool) → made-end .sender .ready ≡ r → not (made-end .sender .ready) ≡ true
-          → (now < length acc) × (getD acc now nothing ≡ messageIs (build (tenOf e)))
+          → (now < length acc) × (getD acc now noMessage ≡ messageIs (build (tenOf e)))
       at true q h = absurd (false≢true (sym (ap not q) ∙ h))
       at false q h = (sent-below (made-holding .sending) q, made-holding .sent q)
 
   pub made-ack : {ent tk ha : ℕ} {valid toggle : Bool} (ackd ld : ℕ)
       → Receiving ent tk ha valid toggle (inOf (e .inbox))
       → 2 * ha + num valid ≤ ackd + ld → ent ≤ ld → ld ≤ ackd + 1 → (n : ℕ)
-      → AckOk ackd (record { ten = tenOf e; acked = n; entered = ent })
+      → AckOk ackd (record { ten = tenOf e; ackCount = n; enterCount = ent })
   made-ack ackd ld r h o u n = record {
     upto = rw (made-says .ack) (acknowledge-made ackd ld r h o u);
     some = rw (made-says .ack) (r .some);

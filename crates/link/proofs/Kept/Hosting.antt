@@ -1,7 +1,7 @@
 -- A host's call: the parts of an end that a line can see stay, so the invariant needs only the two halves anew.
---   endAs, hostedAs   an end, a side, with another health to send, other registers, host and logs
---   hosted-as         the invariant of such a side, from its two halves
---   grown-*           one accepted message more leaves what is known of the older ones
+--   endAs       an end with another health to send and other registers
+--   hosted-as   the invariant of a side with such an end and any host, from its two halves
+--   grown-carries, grown-filling   one accepted message more leaves what is known of the older ones
 -- Assumes nothing.
 use Prim.Native.Nat.{ℕ, _+_, _≤_, _<_}
 use mathlib.Core.Bool.{Bool, true, false, false≢true}
@@ -10,17 +10,17 @@ use mathlib.Core.Path.{_≡_, _∙_}
 use native.Mathlib.Omega.{arith}
 use lib.ListN.{length, getD, List·getD-append}
 use Rattle.end.specs.declared.End.{End}
-use Rattle.end.specs.declared.Heard.{Heard}
-use Rattle.end.specs.declared.Inbox.{Inbox}
+use Rattle.receiver.specs.declared.Heard.{Heard}
+use Rattle.receiver.specs.declared.Inbox.{Inbox}
 use Rattle.end.specs.declared.Outbox.{Outbox}
 use Rattle.end.specs.Good.{bad}
-use Rattle.endlaws.specs.Shape.{Shaped}
+use Rattle.end.specs.Shape.{Shaped}
 use Rattle.protocol.specs.Steps.{num}
-use Rattle.link.specs.Link.{Message, Host, Side}
-use Rattle.link.proofs.Cells.{Cell, frameAt}
-use Rattle.link.proofs.Logs.{length-more, part-grows}
-use Rattle.link.proofs.Way.{nothing, Carries, DataOk, Holding, Filling}
-use Rattle.link.proofs.Inv.{Inv}
+use Rattle.link.specs.Link.{Message, Host, Side, withHost}
+use Rattle.link.proofs.Line.{Cell, frameAt}
+use Rattle.link.proofs.Invariant.Logs.{length-more, part-grows}
+use Rattle.link.proofs.Invariant.OneWay.{noMessage, Carries, DataOk, Holding, Filling}
+use Rattle.link.proofs.Invariant.{Inv}
 
 abbrev pub endAs : End → ℕ → Outbox → Inbox → End
 endAs e k o i = record {
@@ -40,25 +40,14 @@ endAs e k o i = record {
   presence = e .presence;
 }
 
-abbrev pub hostedAs : Side → End → Host → List Message → List Message → Side
-hostedAs s e h acc tk = record {
-  end = e;
-  sent = s .sent;
-  host = h;
-  accepted = acc;
-  loaded = s .loaded;
-  acknowledged = s .acknowledged;
-  entered = s .entered;
-  taken = tk;
-}
-
 module _ {a b : Side} {ca cb : List Cell} {D E pa pb : ℕ} (v : Inv a b ca cb D E pa pb) (k : ℕ) (o : Outbox) (i : Inbox)
-    (h : Host) (acc tk : List Message) where
+    (h : Host) where
   pub hosted-as : bad (endAs (a .end) k o i) ≡ false → Shaped (endAs (a .end) k o i)
-      → Holding (endAs (a .end) k o i) acc (a .loaded) (a .acknowledged)
-      → Filling (a .end .heard) i h (b .accepted) (a .entered) tk (v .ba .ha)
-      → Filling (b .end .heard) (b .end .inbox) (b .host) acc (b .entered) (b .taken) (v .ab .ha)
-      → ((j : ℕ) → DataOk acc (frameAt ca j)) → Inv (hostedAs a (endAs (a .end) k o i) h acc tk) b ca cb D E pa pb
+      → Holding (endAs (a .end) k o i) (h .accepted) (a .log .loadCount) (a .log .ackCount)
+      → Filling (a .end .heard) i (h .stage) (h .soFar) (b .host .accepted) (a .log .entered) (h .taken) (v .ba .ha)
+      → Filling (b .end .heard) (b .end .inbox) (b .host .stage) (b .host .soFar) (h .accepted) (b .log .entered)
+      (b .host .taken) (v .ab .ha)
+      → ((j : ℕ) → DataOk (h .accepted) (frameAt ca j)) → Inv (withHost a (endAs (a .end) k o i) h) b ca cb D E pa pb
   hosted-as good shaped holding filling far frames = record {
     fit-a = record {
       good = good;
@@ -88,10 +77,9 @@ module _ {a b : Side} {ca cb : List Cell} {D E pa pb : ℕ} (v : Inv a b ca cb D
     };
   }
 
--- one accepted message more
 module _ (acc : List Message) (m : Message) where
-  at-grown : (i : ℕ) → i < length acc → getD (acc ++ (m ∷ [])) i nothing ≡ getD acc i nothing
-  at-grown i h = List·getD-append acc (m ∷ []) nothing i h
+  at-grown : (i : ℕ) → i < length acc → getD (acc ++ (m ∷ [])) i noMessage ≡ getD acc i noMessage
+  at-grown i h = List·getD-append acc (m ∷ []) noMessage i h
 
   pub grown-carries : {l : List ℕ} {n : ℕ} → Carries acc l n → Carries (acc ++ (m ∷ [])) l n
   grown-carries {n = n} c = record {
@@ -99,8 +87,8 @@ module _ (acc : List Message) (m : Message) where
     message = λ q. let t = c .message q in (omega (arith, length-more acc m, t .0), at-grown n (t .0) ∙ t .1);
   }
 
-  pub grown-filling : {h : Heard} {i : Inbox} {host : Host} {ent tk : List Message} {ha : ℕ} → length ent ≤ length acc
-      → Filling h i host acc ent tk ha → Filling h i host (acc ++ (m ∷ [])) ent tk ha
+  pub grown-filling : {h : Heard} {i : Inbox} {n ha : ℕ} {p : Message} {ent tk : List Message} → length ent ≤ length acc
+      → Filling h i n p acc ent tk ha → Filling h i n p (acc ++ (m ∷ [])) ent tk ha
   grown-filling {i = i} {ent = ent} {tk = tk} o f = record {
     receiving = f .receiving;
     register = λ q. at-grown (length tk) (below (i .full) q (f .receiving .taken)) ∙ f .register q;

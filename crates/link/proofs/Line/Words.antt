@@ -13,14 +13,14 @@ use native.Mathlib.Omega.{arith}
 use lib.ListN.{length, getD, take, drop, length-take, length-drop, length-map, List·getD-map}
 use lib.Seq.{ext-getD, getD-take, getD-drop}
 use borrow.Author.Tests.{eq-eqb, ne-eqb}
-use Rattle.frame.specs.Bits.{odd}
+use Rattle.crc.specs.Bits.{odd}
 use Rattle.frame.specs.Frame.{build, dataOf}
 use Rattle.frame.proofs.FrameLaws.{build-length, build-data}
-use Rattle.end.specs.declared.Heard.{Heard}
-use Rattle.end.specs.Good.{above}
+use Rattle.receiver.specs.declared.Heard.{Heard}
+use Rattle.laws.specs.Above.{above}
 use Rattle.end.specs.Sending.{bit}
-use Rattle.end.specs.Taking.{saidBy}
-use Rattle.endlaws.proofs.Base.{above-getD}
+use Rattle.receiver.specs.Receiving.{saidBy}
+use Rattle.laws.proofs.AboveLaws.{above-getD}
 use Rattle.protocol.specs.Steps.{num}
 use Rattle.protocol.proofs.Keeps.{num-le}
 use Rattle.link.specs.Link.{Message}

@@ -1,0 +1,25 @@
+-- What else is true after every run, beside demand 3: the log is the ends' own account. So what the statements read in
+-- it can be seen in the registers and the frames.
+--   LogFacts    of what one side logs, and the other
+--   LogsTrue    they hold after every run by the rule, both ways
+-- Assumes nothing.
+use Prim.Native.Nat.{_+_, _≤_}
+use mathlib.Core.Bool.{cond}
+use mathlib.Core.List.{_++_}
+use mathlib.Core.Path.{_≡_}
+use lib.ListN.{length}
+use Rattle.link.specs.Link.{Side}
+use Rattle.link.specs.Demand.{pendingIn, registerHolds, Always}
+
+pub record LogFacts (near far : Side) : Type 0 where
+  -- what entered is what was taken and what stands in the register
+  pub entered : far .log .entered ≡ far .host .taken ++ registerHolds far
+  -- no more are acknowledged than entered
+  pub acknowledged : near .log .ackCount ≤ length (far .log .entered)
+  -- all but a pending one were loaded
+  pub pending : length (near .host .accepted) ≡ near .log .loadCount + length (pendingIn near)
+  -- all that were loaded are acknowledged, but one where the sender is not ready
+  pub ready : near .log .loadCount ≡ near .log .ackCount + cond (near .end .sender .ready) 0 1
+
+abbrev pub LogsTrue : Type 0
+LogsTrue = Always LogFacts

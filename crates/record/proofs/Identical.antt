@@ -1,7 +1,8 @@
--- Replies that satisfy one contract are identical: for each call, any two that its `ensures` allows for the same bytes and
--- arguments, whatever the bytes are said to be afterwards. What they are is one equation to a definition. `Post` is the
--- contract as it stands in the source. Assumes nothing.
-use mathlib.Core.Path.{_≡_, sym, _∙_}
+-- Replies that satisfy one contract are identical: for each call, any two that its `ensures` allows for the same bytes
+-- and arguments, whatever the bytes are said to be afterwards. What they are is one equation to a definition. `Post` is
+-- the contract as it stands in the source. Assumes nothing.
+use mathlib.Core.Path.{sym, _∙_}
+use Rattle.laws.specs.Identical.{Same}
 use Rattle.record.proofs.reset.Reads as reset
 use Rattle.record.proofs.send.Reads as send
 use Rattle.record.proofs.take.Reads as take
@@ -12,10 +13,6 @@ use Rattle.record.proofs.set_health.Reads as set-health
 use Rattle.record.proofs.present.Reads as present
 use Rattle.record.proofs.upgrade.Reads as upgrade
 use Rattle.record.proofs.counts.Reads as counts
-
--- two results that the contract Q allows for the same lifetimes and arguments are one, whatever parameters are at exit
-abbrev pub Same : {K : Type 0} {A R S : K → Type 0} → ((κs : K) → A κs → R κs → S κs → Type 0) → Type 0
-Same {K} {A} {R} {S} Q = (κs : K) (a : A κs) (x y : R κs) (s t : S κs) → Q κs a x s → Q κs a y t → x ≡ y
 
 pub reset-identical : Same reset.Post
 reset-identical κs a x y s t e f = e .0 ∙ sym (f .0)

@@ -1,11 +1,5 @@
-pub mod Bytes
-pub mod Parts
-pub mod Written
-pub mod Accepted
-pub mod Before
 pub mod Gave
 pub mod Answers
 pub mod Through
 pub mod Versions
 pub mod Identical
-pub mod Cases

@@ -1,7 +1,4 @@
 -- Each call on a record is the call on its end, and so is each list of calls.
---   accepted-exactly   a record is not refused exactly when writing its end gives the same bytes. Its end is one that
---                      answer 1 does not meet (a position of 200 would write back the same), with whole arrays (a
---                      record cut short in the last field would too)
 --   through-end        a call on the record of an end: the call's answer and value, and the record of its next end
 --   CALL-record        the same call by call, in document 01's own definitions; present-leaves, present changes no byte
 --   reason-record, reason-refused   a take that says why: what becomes of the collection; nothing where it is refused
@@ -13,8 +10,7 @@
 use Prim.Native.Nat.{ℕ}
 use mathlib.Core.Bool.{Bool, true, false, cond}
 use mathlib.Core.List.{List, [], _∷_, map}
-use mathlib.Core.Logic.{_↔_}
-use mathlib.Core.Path.{_≡_, refl, sym, ap, _∙_, subst}
+use mathlib.Core.Path.{_≡_, refl, ap, _∙_, subst}
 use lib.ListN.{length}
 use borrow.Author.Tests.{eq-eqb}
 use Rattle.answer.specs.Number.{numberOf}
@@ -26,26 +22,20 @@ use Rattle.end.specs.Good.{bad, resetOf, presentOf}
 use Rattle.end.specs.Sending.{sendOf}
 use Rattle.end.specs.Taking.{takeOf}
 use Rattle.end.specs.Registers.{readOf, writeOf, healthOf}
-use Rattle.endlaws.specs.Calls.{Call, send, take, read, write, health, present, after, calls, reached}
-use Rattle.endlaws.specs.Shape.{Shaped}
+use Rattle.end.specs.Calls.{Call, after, calls, reached}
+use Rattle.end.specs.Shape.{Shaped}
 use Rattle.endlaws.proofs.Answers.{take-refused}
 use Rattle.endlaws.proofs.Goods.{after-good, reset-good, reached-good, reached-shaped}
-use Rattle.endlaws.proofs.Shapes.{after-shaped, reset-shaped}
+use Rattle.endlaws.proofs.Shapes.{after-shaped}
+use Rattle.end.proofs.Guards.{reset-shaped}
+use Rattle.recordspec.specs.Record.{size, flag, recordOf, endOf, refused}
+use Rattle.recordspec.specs.Results.{Result, sending, taking, reading, writing, settingHealth, presenting, result}
+use Rattle.recordspec.proofs.Accepted.{accepted-back, accepted-good, accepted-shape}
+use Rattle.recordspec.proofs.Results.{after-end}
+use Rattle.recordspec.proofs.Written.{read-back, written-accepted}
 use Rattle.record.specs.declared.Reply.{Reply}
-use Rattle.record.specs.Record.{size, flag, recordOf, endOf, refused}
-use Rattle.record.specs.Calls.{Result, Called, through, stored, resetting, badReply, badRecord}
-use Rattle.record.specs.Calls.{reasonThrough, toldBy}
-use Rattle.record.specs.Calls.{sending, taking, reading, writing, settingHealth, presence}
-use Rattle.record.specs.Runs.{result, replies, bytes, told}
-use Rattle.record.proofs.Accepted.{accepted-back, accepted-good, accepted-shape}
-use Rattle.record.proofs.Written.{read-back, written-accepted}
-
-pub accepted-exactly : (r : List ℕ)
-    → (refused r ≡ false) ↔ (Shaped (endOf r) × ((bad (endOf r) ≡ false) × (recordOf (endOf r) ≡ r)))
-accepted-exactly r = (
-  λ h. (accepted-shape r h, (accepted-good r h, accepted-back r h)),
-  λ w. rw (sym (w .1 .1)) (written-accepted (endOf r) (w .0) (w .1 .0)),
-)
+use Rattle.record.specs.Calls.{Called, through, stored, resetting, badReply, badRecord, reasonThrough, toldBy}
+use Rattle.record.specs.Runs.{replies, bytes, told}
 
 pub through-end : (f : End → Result) (e : End) → Shaped e → bad e ≡ false → through f (recordOf e) ≡ stored (f e)
 unfolding through
@@ -100,8 +90,8 @@ pub health-record : (n : ℕ) (r : List ℕ) → refused r ≡ false
 health-record n r h = accepted-call (settingHealth n) r h
 
 pub present-record : (r : List ℕ) → refused r ≡ false
-    → Gives (through presence r) Done (cond (presentOf (endOf r)) 1 0) (endOf r)
-present-record r h = accepted-call presence r h ∙ ap (λ (v : ℕ). answered v) (flag-is (presentOf (endOf r)))
+    → Gives (through presenting r) Done (cond (presentOf (endOf r)) 1 0) (endOf r)
+present-record r h = accepted-call presenting r h ∙ ap (λ (v : ℕ). answered v) (flag-is (presentOf (endOf r)))
   where
     answered : ℕ → Called
     answered v = record { reply = record { answer = Done; value = v }; bytes = recordOf (endOf r) }
@@ -110,26 +100,18 @@ present-record r h = accepted-call presence r h ∙ ap (λ (v : ℕ). answered v
     flag-is true = refl
     flag-is false = refl
 
-pub present-leaves : (r : List ℕ) → through presence r .bytes ≡ r
+pub present-leaves : (r : List ℕ) → through presenting r .bytes ≡ r
 present-leaves r = go (refused r) refl
   where
-    go : (b : Bool) → refused r ≡ b → through presence r .bytes ≡ r
-    go true h = ap (λ (c : Called). c .bytes) (refused-call presence r h)
-    go false h = ap (λ (c : Called). c .bytes) (accepted-call presence r h) ∙ accepted-back r h
+    go : (b : Bool) → refused r ≡ b → through presenting r .bytes ≡ r
+    go true h = ap (λ (c : Called). c .bytes) (refused-call presenting r h)
+    go false h = ap (λ (c : Called). c .bytes) (accepted-call presenting r h) ∙ accepted-back r h
 
 pub reset-record : (r : List ℕ) → length r ≡ size → Gives (resetting r) Done 0 resetOf
 unfolding resetting
 reset-record r h = rw (eq-eqb (length r) size h)
 
 -- Lists of calls
-
-pub after-end : (c : Call) (e : End) → result c e .end ≡ after c e
-after-end send e = refl
-after-end (take s) e = refl
-after-end (read r) e = refl
-after-end (write r v h) e = refl
-after-end (health h) e = refl
-after-end present e = refl
 
 pub runs-same : (cs : List Call) (e : End) → Shaped e → bad e ≡ false
     → (replies cs (recordOf e) ≡ told cs e) × (bytes cs (recordOf e) ≡ recordOf (calls cs e))

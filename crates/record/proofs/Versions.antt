@@ -1,9 +1,7 @@
 -- Requests #106 and #107: the upgrade of a record of version 1 or 2, and the counts and presence of a record.
---   before-exactly     a record of version 1 or 2 is not refused exactly when writing its end and its bool as that
---                      version did gives the same bytes (with the two conditions of accepted-exactly)
---   one-version        no bytes are a good record of two versions: so by call-11, counts-11 and upgrade-11 a call on a
---                      record of before is answered 11, and so is an upgrade of a record as it is written now
---   upgrade-11, upgrade-0   which upgrades are answered so; there is no other number
+--   upgrade-11, upgrade-0   which upgrades are answered so; there is no other number. With recordspec's one-version, an
+--                      upgrade of a record as it is written now is answered 11, and by call-11 and counts-11 so is a
+--                      call on a record of before
 --   upgrade-refused    any number but 0: the value is 0, and the area's bytes are as they were
 --   upgrade-record     of a good record of version 1 or 2, in an area of the right size: the record of its end;
 --                      upgrade-bytes, its bytes
@@ -23,7 +21,7 @@
 --                      the last 768 symbols taken, or what was left of presence in the record outlasts them
 --   reset-present, upgrade-present   the same after reset or an upgrade, where nothing was left
 -- Assumes nothing.
-use Prim.Native.Nat.{ℕ, _≤_}
+use Prim.Native.Nat.{ℕ}
 use mathlib.Core.Bool.{Bool, true, false, cond, _||_, and-false, true≢false}
 use mathlib.Core.List.{List, [], _∷_, map}
 use mathlib.Core.Logic.{_↔_, _⊎_, inl, inr}
@@ -34,90 +32,44 @@ use lib.ListN.{length}
 use borrow.Author.Tests.{eq-eqb, eqb-true, eqb-false, le-ltb}
 use Rattle.answer.specs.Number.{numberOf}
 use Rattle.answer.specs.declared.Answer.the-variants.{Done, BadRecord}
-use Rattle.end.specs.declared.Counts.{Counts}
+use Rattle.receiver.specs.declared.Counts.{Counts}
 use Rattle.end.specs.declared.End.{End}
-use Rattle.end.specs.Counting.{noCounts}
-use Rattle.end.specs.Presence.{lasting}
+use Rattle.receiver.specs.Counting.{noCounts}
+use Rattle.receiver.specs.Presence.{lasting}
 use Rattle.end.specs.Good.{bad, resetOf, presentOf}
-use Rattle.end.proofs.Laws.{or-no, good}
-use Rattle.endlaws.specs.Calls.{Call, after, calls}
+use Rattle.laws.proofs.Bools.{or-no}
+use Rattle.end.proofs.Laws.{good}
+use Rattle.end.specs.Calls.{Call, after, calls}
 use Rattle.endlaws.specs.Counted.{grown}
 use Rattle.endlaws.specs.Presence.{beside}
 use Rattle.endlaws.specs.Reasons.{reasons}
-use Rattle.endlaws.specs.Shape.{Shaped}
+use Rattle.end.specs.Shape.{Shaped}
 use Rattle.endlaws.specs.Taken.{takes, lastOf, acceptances, some}
 use Rattle.endlaws.proofs.Apart.{send-apart, take-apart, read-apart, write-apart, health-apart, after-apart}
 use Rattle.endlaws.proofs.Apart.{present-apart, same-bad, same-presence, range-next}
-use Rattle.endlaws.proofs.Base.{no-if}
 use Rattle.endlaws.proofs.Counted.{calls-counts}
-use Rattle.endlaws.proofs.Decide.{Decides, hit, decides-and}
+use Rattle.laws.proofs.Decide.{hit}
 use Rattle.endlaws.proofs.Goods.{reset-good, after-good, calls-good, calls-shaped}
 use Rattle.endlaws.proofs.Presence.{calls-present, absent-present}
-use Rattle.endlaws.proofs.Shapes.{reset-shaped, after-shaped}
+use Rattle.end.proofs.Guards.{reset-shaped}
+use Rattle.endlaws.proofs.Shapes.{after-shaped}
+use Rattle.recordspec.specs.Record.{size, sizeOne, versionOne, sizeTwo, versionTwo, flag, recordOf, recordBefore}
+use Rattle.recordspec.specs.Record.{endOf, endBefore, newer, refused, refusedBefore, neither, Wrong}
+use Rattle.recordspec.specs.Results.{presenting, result, asks}
+use Rattle.recordspec.proofs.Accepted.{accepted-back, accepted-good, accepted-shape}
+use Rattle.recordspec.proofs.Before.{before-accepted, newer-good, old-good, old-shape, old-absent, one-read-back}
+use Rattle.recordspec.proofs.Before.{two-read-back, one-kept}
+use Rattle.recordspec.proofs.Results.{after-end}
+use Rattle.recordspec.proofs.Versions.{WrongOne, WrongTwo, wrong-both}
+use Rattle.recordspec.proofs.Written.{read-back, written-accepted}
+use Rattle.recordspec.proofs.Wrong.{wrong}
 use Rattle.record.specs.declared.Counted.{Counted}
 use Rattle.record.specs.declared.Reply.{Reply}
-use Rattle.record.specs.Record.{size, sizeOne, versionOne, sizeTwo, versionTwo, flag, flagAt, boolAt}
-use Rattle.record.specs.Record.{recordOf, recordBefore, endOf, endBefore, newer, refused, refusedBefore}
-use Rattle.record.specs.Record.{WrongBy, Wrong, WrongBefore}
-use Rattle.record.specs.Calls.{Called, stored, badRecord, through, filled, resetting, neither, upgrading}
-use Rattle.record.specs.Calls.{countsBy, presence}
-use Rattle.record.specs.Runs.{result, called, asks, replies, bytes, told}
-use Rattle.record.proofs.Accepted.{fits-now, accepted-back, accepted-good, accepted-shape}
-use Rattle.record.proofs.Answers.{wrong, wrong-before}
-use Rattle.record.proofs.Before.{was, before-back, before-good, before-shape, before-accepted, newer-good}
-use Rattle.record.proofs.Before.{old-good, old-shape, old-absent, one-read-back, two-read-back, one-kept}
-use Rattle.record.proofs.Through.{Gives, after-end, through-end, runs-same, reset-record}
-use Rattle.record.proofs.Written.{read-back, written-accepted}
-
--- Records of before
-
-module _ (n v : ℕ) (low : sizeOne ≤ n) (high : n ≤ sizeTwo) (r : List ℕ) where
-  pub before-exactly : (refusedBefore n v r ≡ false)
-      ↔ (Shaped (endBefore r)
-      × ((bad (endBefore r) ≡ false) × (recordBefore n v (flagAt r boolAt) (endBefore r) ≡ r)))
-  before-exactly = (
-    λ h. (before-shape n v low high r h, (before-good n v low high r h, before-back n v low high r h)),
-    λ w.
-        subst (λ (t : List ℕ). refusedBefore n v t ≡ false) (w .1 .1)
-        (before-accepted n v low high (flagAt r boolAt) (endBefore r) (w .0) (w .1 .0)),
-  )
-
-abbrev WrongOne : List ℕ → Type 0
-WrongOne r = WrongBefore sizeOne versionOne r
-
-abbrev WrongTwo : List ℕ → Type 0
-WrongTwo r = WrongBefore sizeTwo versionTwo r
-
-wrong-one : (r : List ℕ) → Decides (refusedBefore sizeOne versionOne r) (WrongOne r)
-wrong-one = wrong-before sizeOne versionOne (lit≤ tt) (lit≤ tt)
-
-wrong-two : (r : List ℕ) → Decides (refusedBefore sizeTwo versionTwo r) (WrongTwo r)
-wrong-two = wrong-before sizeTwo versionTwo (lit≤ tt) (lit≤ tt)
-
--- a record of another size is wrong
-other : {m n v k x : ℕ} {b r : List ℕ} → length r ≡ m → ¬ (m ≡ n) → WrongBy n v k x b r
-other l d = WrongBy.area (λ e. d (sym l ∙ e))
-
-pub one-version : (r : List ℕ)
-    → (¬ WrongOne r → WrongTwo r × Wrong r) × (¬ WrongTwo r → WrongOne r × Wrong r)
-    × (¬ Wrong r → WrongOne r × WrongTwo r)
-one-version r = (
-  λ w.
-      let l = was sizeOne versionOne (lit≤ tt) (lit≤ tt) r (no-if _ (λ h. w (wrong-one r .holds h))) .long in
-      (other l (λ e. omega arith), other l (λ e. omega arith)),
-  λ w.
-      let l = was sizeTwo versionTwo (lit≤ tt) (lit≤ tt) r (no-if _ (λ h. w (wrong-two r .holds h))) .long in
-      (other l (λ e. omega arith), other l (λ e. omega arith)),
-  λ w.
-      let l = fits-now r (no-if _ (λ h. w (wrong r .holds h))) .long in
-      (other l (λ e. omega arith), other l (λ e. omega arith)),
-)
+use Rattle.record.specs.Calls.{Called, stored, badRecord, through, filled, resetting, upgrading, countsBy}
+use Rattle.record.specs.Runs.{called, replies, bytes, told}
+use Rattle.record.proofs.Through.{Gives, through-end, runs-same, reset-record}
 
 -- The upgrade
-
-wrong-both : (r : List ℕ) → Decides (neither r) (WrongOne r × WrongTwo r)
-wrong-both r =
-    decides-and (refusedBefore sizeOne versionOne r) (refusedBefore sizeTwo versionTwo r) (wrong-one r) (wrong-two r)
 
 module _ (r a : List ℕ) where
   abbrev replied : Bool → Bool → Called
@@ -367,15 +319,15 @@ upgrade-counts cs r a h l = rw (upgrade-record r a h l) (end-counts cs (endBefor
 -- Presence
 
 abbrev Present : List ℕ → Bool → Type 0
-Present r b = through presence r .reply ≡ record { answer = Done; value = flag b }
+Present r b = through presenting r .reply ≡ record { answer = Done; value = flag b }
 
 -- of the record of an end
 end-present : (cs : List Call) (e : End) → Shaped e → bad e ≡ false → (b : Bool) → presentOf (calls cs e) ≡ b
     → Present (bytes cs (recordOf e)) b
 end-present cs e s g b h =
     let now = calls cs e in
-    ap (λ (t : List ℕ). through presence t .reply) (runs-same cs e s g .1)
-    ∙ (ap (λ (c : Called). c .reply) (through-end presence now (calls-shaped cs e s) (calls-good cs e g))
+    ap (λ (t : List ℕ). through presenting t .reply) (runs-same cs e s g .1)
+    ∙ (ap (λ (c : Called). c .reply) (through-end presenting now (calls-shaped cs e s) (calls-good cs e g))
     ∙ ap (λ (t : Bool). record { answer = Done; value = flag t }) h)
 
 pub runs-present : (cs : List Call) (r : List ℕ) → refused r ≡ false

@@ -1,8 +1,4 @@
 -- The calls on a record: each is the call on the record's end.
---   Result            what a call on an end gives, in one shape for all: the answer; the symbol of a send, the value of
---                     a read, 1 for present, else 0; and the next end
---   sending, taking, reading, writing, settingHealth, presence   the calls of document 01 in that shape; moved, where
---                     there is no value
 --   Called            what a call on a record gives: the reply, and every byte of the record after it
 --   badRecord r       answer 11, and the bytes as they were; stored x, the answer of x, and the record of its end
 --   through f r       the call f on the record r: answer 11 and the bytes as they were, or the call on its end
@@ -12,56 +8,26 @@
 --   filled e a        the area a filled with the record of e, where it has the right size
 --   resetting a       reset, which asks only for an area of the right size
 --   upgrading r a     requests #106 and #107: the area a filled with the record of the end of r, a record of version 1
---                     or 2; neither r, r is no good one
+--                     or 2
 --   countsBy r        the counts of the record r; all 0 where it is refused
 -- Assumes nothing.
 use Prim.Native.Nat.{ℕ}
-use mathlib.Core.Bool.{Bool, cond, _&&_}
+use mathlib.Core.Bool.{cond}
 use mathlib.Core.List.{List}
 use lib.Dec.{eqb}
 use lib.ListN.{length}
-use Rattle.answer.specs.declared.Answer.{Answer}
 use Rattle.answer.specs.declared.Answer.the-variants.{Done, BadRecord}
 use Rattle.frame.specs.declared.reason.Reason.{Reason}
 use Rattle.frame.specs.declared.reason.Reason.the-variants.{Nothing}
 use Rattle.end.specs.declared.End.{End}
-use Rattle.end.specs.declared.Next.{Next}
-use Rattle.end.specs.Counting.{noCounts}
-use Rattle.end.specs.Good.{resetOf, presentOf}
-use Rattle.end.specs.Sending.{sendOf}
+use Rattle.receiver.specs.Counting.{noCounts}
+use Rattle.end.specs.Good.{resetOf}
 use Rattle.end.specs.Taking.{takeOf}
-use Rattle.end.specs.Registers.{readOf, writeOf, healthOf}
+use Rattle.recordspec.specs.Record.{size, recordOf, endOf, endBefore, refused, neither}
+use Rattle.recordspec.specs.Results.{Result, taking}
 use Rattle.record.specs.declared.Reply.{Reply}
 use Rattle.record.specs.declared.Told.{Told}
 use Rattle.record.specs.declared.Counted.{Counted}
-use Rattle.record.specs.Record.{size, sizeOne, versionOne, sizeTwo, versionTwo, flag, recordOf, endOf, endBefore}
-use Rattle.record.specs.Record.{refused, refusedBefore}
-
-pub record Result : Type 0 where
-  pub answer : Answer
-  pub value : ℕ
-  pub end : End
-
-abbrev pub moved : Next → Result
-moved n = record { answer = n .answer; value = 0; end = n .end }
-
-abbrev pub sending : End → Result
-sending e = record { answer = sendOf e .answer; value = sendOf e .symbol; end = sendOf e .end }
-
-abbrev pub taking : ℕ → End → Result
-taking s e = record { answer = takeOf e s .answer; value = 0; end = takeOf e s .end }
-
-abbrev pub reading : ℕ → End → Result
-reading r e = record { answer = readOf e r .answer; value = readOf e r .value; end = readOf e r .end }
-
-abbrev pub writing : ℕ → ℕ → End → Result
-writing r v e = moved (writeOf e r v)
-
-abbrev pub settingHealth : ℕ → End → Result
-settingHealth h e = moved (healthOf e h)
-
-abbrev pub presence : End → Result
-presence e = record { answer = Done; value = flag (presentOf e); end = e }
 
 pub record Called : Type 0 where
   pub reply : Reply
@@ -90,9 +56,6 @@ filled e a = cond (eqb (length a) size) (stored (record { answer = Done; value =
 
 unfoldable pub resetting : List ℕ → Called
 resetting a = filled resetOf a
-
-abbrev pub neither : List ℕ → Bool
-neither r = refusedBefore sizeOne versionOne r && refusedBefore sizeTwo versionTwo r
 
 unfoldable pub upgrading : List ℕ → List ℕ → Called
 upgrading r a = cond (neither r) (badRecord a) (filled (endBefore r) a)

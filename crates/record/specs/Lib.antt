@@ -1,4 +1,2 @@
-pub mod Record
 pub mod Calls
 pub mod Runs
-pub mod Cases

@@ -1,41 +1,26 @@
 // Request #104: an end that the C side keeps, as a record in bytes that it lends to each call. A call looks the record
 // over, reads its end, makes the call of crate `end` and writes the next end back. docs/RECORD.md has the offsets.
 // Requests #106 and #107: the counts, and the records of before, which an upgrade alone reads.
-mod limits;
-mod reading;
-mod refusing;
-mod writing;
-
 use answer::Answer;
-use end::Counts;
 use end::End;
 use end::Next;
 use frame::reason::Reason;
-use reading::end_of;
-use refusing::refused;
-use refusing::refused_before;
-use writing::put_end;
-use writing::put_newer;
+use receiver::Counts;
+use recordbytes::SIZE;
+use recordbytes::SIZE_ONE;
+use recordbytes::SIZE_TWO;
+use recordbytes::VERSION_ONE;
+use recordbytes::VERSION_TWO;
+use recordbytes::reading::end_of;
+use recordbytes::refusing::refused;
+use recordbytes::refusing::refused_before;
+use recordbytes::writing::put_end;
+use recordbytes::writing::put_newer;
 ghost use mathlib.Core.Path.{_≡_};
 ghost use lib.ListN.{length};
-ghost use Rattle.record.specs.Record.{size};
-ghost use Rattle.record.specs.Calls.{through, toldBy, filled, resetting, upgrading, countsBy, badReply, moved};
-ghost use Rattle.record.specs.Calls.{stored};
-ghost use Rattle.record.specs.Calls.{sending, taking, reading, writing, settingHealth, presence};
-
-// How long a record is, and its version.
-pub const SIZE: usize = 101;
-
-pub const VERSION: u8 = 3;
-
-// The same of the records of before.
-const SIZE_ONE: usize = 92;
-
-const VERSION_ONE: u8 = 1;
-
-const SIZE_TWO: usize = 100;
-
-const VERSION_TWO: u8 = 2;
+ghost use Rattle.recordspec.specs.Record.{size};
+ghost use Rattle.recordspec.specs.Results.{moved, sending, taking, reading, writing, settingHealth, presenting};
+ghost use Rattle.record.specs.Calls.{through, toldBy, filled, resetting, upgrading, countsBy, badReply, stored};
 
 // What a call gives: its answer, and the symbol of a send, the value of a read, 1 for present; else 0.
 pub struct Reply {
@@ -181,7 +166,7 @@ pub fn set_health(area: &mut [u8], health: u16) -> Reply
 
 // Whether the partner is present. The record is only read.
 pub fn present(area: &[u8]) -> Reply
-    ensures { λ r. ⌜ r ≡ through presence (now (area .entry)) .reply ⌝ }
+    ensures { λ r. ⌜ r ≡ through presenting (now (area .entry)) .reply ⌝ }
 {
     if refused(area) {
         return bad_record();

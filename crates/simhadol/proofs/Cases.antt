@@ -1,4 +1,4 @@
--- Replies as C gets them, on the worked record of crate `record` with every bool true and on one byte changed.
+-- Replies as C gets them, on the worked record of crate `recordspec` with every bool true and on one byte changed.
 --   3.2308: pending, toggle, Received, received toggle, number 13, PingRx got, PingTx, health as loaded 2: FD0E
 --   3.2313: full, toggle, number 14, partner health 3: CE03
 -- And what a take says: on that record, whose collection has nine symbols, and on one with eleven of P1's frame. And
@@ -9,18 +9,19 @@ use mathlib.Core.Bool.{Bool, true}
 use mathlib.Core.List.{List, [], _∷_, _++_}
 use mathlib.Core.Path.{_≡_, refl}
 use lib.ListN.{set, take, drop, replicate}
-use Rattle.frame.specs.Bits.{bits, number, oddOnes}
-use Rattle.frame.specs.Crc.{crc}
+use Rattle.crc.specs.Bits.{bits, number, oddOnes}
+use Rattle.crc.specs.Crc.{crc}
 use Rattle.frame.specs.Frame.{generator, stream, crcOf, even, crcRight}
-use Rattle.end.specs.Good.{above, bad, presentOf}
+use Rattle.laws.specs.Above.{above}
+use Rattle.end.specs.Good.{bad, presentOf}
 use Rattle.end.specs.Registers.{readOf, writeOf}
-use Rattle.end.specs.Counting.{tallied}
+use Rattle.receiver.specs.Counting.{tallied}
 use Rattle.end.specs.Taking.{taken as steps, takeOf}
-use Rattle.record.specs.Record.{frontOf, backOf, bodyOf, recordOf, endOf, without, newer, limits, exceeds, wrongHead}
-use Rattle.record.specs.Record.{refusedBy, refused, refusedBefore}
-use Rattle.record.specs.Calls.{through, taking, reading, writing, presence, reasonThrough, toldBy, badRecord}
-use Rattle.record.specs.Calls.{upgrading, countsBy}
-use Rattle.record.specs.Cases.{first, second, third, laid, laidOne, laidTwo}
+use Rattle.recordspec.specs.Record.{frontOf, backOf, bodyOf, recordOf, endOf, without, newer, limits, exceeds}
+use Rattle.recordspec.specs.Record.{wrongHead, refusedBy, refused, refusedBefore}
+use Rattle.recordspec.specs.Results.{taking, reading, writing, presenting}
+use Rattle.recordspec.specs.Cases.{first, second, third, laid, laidOne, laidTwo}
+use Rattle.record.specs.Calls.{through, reasonThrough, toldBy, badRecord, upgrading, countsBy}
 use Rattle.simhadol.specs.Numbered.{numbered, told, counted}
 use Rattle.simhadol.specs.declared.SimhadolCounted.{SimhadolCounted}
 use Rattle.simhadol.specs.declared.SimhadolReply.{SimhadolReply}
@@ -40,7 +41,7 @@ pub status : numbered (through (reading 2313) given .reply) ≡ reply 0 0xCE03
 unfolding through refused refusedBy wrongHead exceeds limits frontOf backOf endOf readOf bad above
 status = refl
 
-pub present-there : numbered (through presence given .reply) ≡ reply 0 1
+pub present-there : numbered (through presenting given .reply) ≡ reply 0 1
 unfolding through refused refusedBy wrongHead exceeds limits frontOf backOf endOf presentOf bad above
 present-there = refl
 
@@ -128,15 +129,15 @@ mark-counted = refl
 abbrev left : ℕ → ℕ → List ℕ
 left h l = set (set eleven 99 h) 100 l
 
-pub left-768 : numbered (through presence (left 3 0) .reply) ≡ reply 0 1
+pub left-768 : numbered (through presenting (left 3 0) .reply) ≡ reply 0 1
 unfolding through refused refusedBy wrongHead exceeds limits frontOf backOf endOf presentOf bad above
 left-768 = refl
 
-pub left-769 : numbered (through presence (left 3 1) .reply) ≡ reply 11 0
+pub left-769 : numbered (through presenting (left 3 1) .reply) ≡ reply 11 0
 unfolding through refused refusedBy wrongHead exceeds limits frontOf backOf
 left-769 = refl
 
-pub lapses : numbered (through presence (through (taking 0x200) (left 0 1) .bytes) .reply) ≡ reply 0 0
+pub lapses : numbered (through presenting (through (taking 0x200) (left 0 1) .bytes) .reply) ≡ reply 0 0
 unfolding through refused refusedBy wrongHead exceeds limits frontOf backOf bodyOf recordOf endOf takeOf steps tallied
     presentOf bad above
 lapses = refl

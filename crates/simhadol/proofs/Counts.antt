@@ -12,16 +12,16 @@ use mathlib.Core.Path.{_≡_, ap, _∙_}
 use lib.ListN.{length, getD}
 use Rattle.frame.specs.declared.reason.Reason.{Reason}
 use Rattle.frame.specs.Reason.{isAccepted}
-use Rattle.end.specs.declared.Counts.{Counts}
-use Rattle.end.specs.Counting.{noCounts}
+use Rattle.receiver.specs.declared.Counts.{Counts}
+use Rattle.receiver.specs.Counting.{noCounts}
 use Rattle.end.specs.Good.{resetOf}
-use Rattle.endlaws.specs.Calls.{Call}
+use Rattle.end.specs.Calls.{Call}
 use Rattle.endlaws.specs.Counted.{isCrc, isMarked, isEarly, times, upTo}
 use Rattle.endlaws.specs.Reasons.{reasons}
-use Rattle.record.specs.Record.{size, sizeOne, versionOne, endOf, endBefore, refused, refusedBefore}
-use Rattle.record.specs.Calls.{resetting, neither, upgrading, countsBy}
+use Rattle.recordspec.specs.Record.{size, sizeOne, versionOne, endOf, endBefore, refused, refusedBefore, neither}
+use Rattle.recordspec.proofs.Before.{one-uncounted}
+use Rattle.record.specs.Calls.{resetting, upgrading, countsBy}
 use Rattle.record.specs.Runs.{bytes}
-use Rattle.record.proofs.Before.{one-uncounted}
 use Rattle.record.proofs.Versions.{counts-record, reset-counts, upgrade-counts}
 use Rattle.simhadol.specs.Numbered.{counted}
 use Rattle.simhadol.specs.declared.SimhadolCounted.{SimhadolCounted}

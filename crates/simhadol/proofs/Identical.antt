@@ -1,6 +1,6 @@
 -- Replies that satisfy one contract are identical, for each call that the C side makes. Assumes nothing.
-use mathlib.Core.Path.{_≡_, sym, _∙_}
-use Rattle.record.proofs.Identical.{Same}
+use mathlib.Core.Path.{sym, _∙_}
+use Rattle.laws.specs.Identical.{Same}
 use Rattle.simhadol.proofs.simhadol_record_length.Reads as record-length
 use Rattle.simhadol.proofs.simhadol_reset.Reads as reset
 use Rattle.simhadol.proofs.simhadol_send.Reads as send

@@ -17,28 +17,29 @@ use lib.Dec.{ltb}
 use lib.ListN.{length, getD}
 use Rattle.answer.specs.declared.Answer.the-variants.{Done}
 use Rattle.end.specs.Good.{resetOf, presentOf}
-use Rattle.endlaws.specs.Calls.{Call, reached}
+use Rattle.end.specs.Calls.{Call, reached}
 use Rattle.endlaws.specs.Presence.{FrameWithin, Steady}
 use Rattle.endlaws.specs.Taken.{takes, lastOf, acceptances, some}
 use Rattle.endlaws.proofs.Presence.{reached-present, reached-frame, steady-absent}
-use Rattle.record.specs.Record.{size, flag, endOf, endBefore, refused}
-use Rattle.record.specs.Calls.{Called, through, presence, resetting, neither, upgrading}
+use Rattle.recordspec.specs.Record.{size, flag, endOf, endBefore, refused, neither}
+use Rattle.recordspec.specs.Results.{presenting}
+use Rattle.recordspec.proofs.Accepted.{accepted-good}
+use Rattle.record.specs.Calls.{Called, through, resetting, upgrading}
 use Rattle.record.specs.Runs.{bytes}
-use Rattle.record.proofs.Accepted.{accepted-good}
 use Rattle.record.proofs.Through.{present-record}
 use Rattle.record.proofs.Versions.{runs-present, reset-present, upgrade-present}
 use Rattle.simhadol.specs.Numbered.{numbered}
 use Rattle.simhadol.specs.declared.SimhadolReply.{SimhadolReply}
 
 abbrev pub Tells : List ℕ → Bool → Type 0
-Tells r b = numbered (through presence r .reply) ≡ record { answer = 0; value = cond b 1 0 }
+Tells r b = numbered (through presenting r .reply) ≡ record { answer = 0; value = cond b 1 0 }
 
 -- a bool's byte, as a choice
 byte-is : (b : Bool) → flag b ≡ cond b 1 0
 byte-is true = refl
 byte-is false = refl
 
-tells : (r : List ℕ) (b : Bool) → through presence r .reply ≡ record { answer = Done; value = flag b } → Tells r b
+tells : (r : List ℕ) (b : Bool) → through presenting r .reply ≡ record { answer = Done; value = flag b } → Tells r b
 tells r b h = ap numbered h ∙ ap (λ (v : ℕ). record { answer = 0; value = v }) (byte-is b)
 
 pub presence-offset : (r : List ℕ) → refused r ≡ false → Tells r (ltb 0 (256 * getD r 99 0 + getD r 100 0))

@@ -4,9 +4,9 @@ use record::Counted;
 use record::Reply;
 use record::Told;
 ghost use mathlib.Core.Path.{_≡_};
-ghost use Rattle.record.specs.Record.{size};
-ghost use Rattle.record.specs.Calls.{resetting, through, sending, taking, reading, writing, settingHealth, presence};
-ghost use Rattle.record.specs.Calls.{toldBy, upgrading, countsBy};
+ghost use Rattle.recordspec.specs.Record.{size};
+ghost use Rattle.recordspec.specs.Results.{sending, taking, reading, writing, settingHealth, presenting};
+ghost use Rattle.record.specs.Calls.{resetting, through, toldBy, upgrading, countsBy};
 ghost use Rattle.simhadol.specs.Numbered.{numbered, told, counted};
 
 // An answer's number, and the symbol of a send, the value of a read, 1 for present; else 0.
@@ -39,7 +39,7 @@ pub struct SimhadolCounted {
 pub extern "C" fn simhadol_record_length() -> usize
     ensures { λ r. ⌜ r ≡ size ⌝ }
 {
-    record::SIZE
+    recordbytes::SIZE
 }
 
 // Fills an area of the right size with the record of an end just reset.
@@ -115,7 +115,7 @@ pub extern "C" fn simhadol_set_health(area: &mut [u8], health: u16) -> SimhadolR
 // Whether the partner is present: 1 or 0.
 #[no_mangle]
 pub extern "C" fn simhadol_present(area: &[u8]) -> SimhadolReply
-    ensures { λ r. ⌜ r ≡ numbered (through presence (now (area .entry)) .reply) ⌝ }
+    ensures { λ r. ⌜ r ≡ numbered (through presenting (now (area .entry)) .reply) ⌝ }
 {
     let reply = record::present(area);
     numbered(reply)

@@ -1,6 +1,7 @@
 -- `counts` meets its contract: it is refused, or the counts of the end that was read.
 -- Assumes nothing.
-use Rattle.record.proofs.Gave.{good-length, counts-bad, counts-done}
+use Rattle.recordspec.proofs.Refusing.{good-length}
+use Rattle.record.proofs.Gave.{counts-bad, counts-done}
 use borrow.Author.Needs.{needs}
 use Rattle.record.proofs.counts.Statement.{statement}
 use Rattle.record.proofs.counts.Tie as tie

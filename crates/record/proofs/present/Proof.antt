@@ -3,9 +3,10 @@
 use mathlib.Core.Bool.{Bool}
 use mathlib.Core.Path.{refl, ap, _∙_}
 use Rattle.answer.specs.declared.Answer.the-variants.{Done}
-use Rattle.record.specs.Record.{flag}
-use Rattle.record.specs.Calls.{presence}
-use Rattle.record.proofs.Gave.{good-length, gave-bad, gave-done}
+use Rattle.recordspec.specs.Record.{flag}
+use Rattle.recordspec.specs.Results.{presenting}
+use Rattle.recordspec.proofs.Refusing.{good-length}
+use Rattle.record.proofs.Gave.{gave-bad, gave-done}
 use borrow.Author.Needs.{needs}
 use Rattle.record.proofs.present.Statement.{statement}
 use Rattle.record.proofs.present.Tie as tie
@@ -32,9 +33,9 @@ returns-2 : tie.Need-returns-2
 returns-2 c =
     let e = c .before in
     let t = e .before in
-    gave-done presence _ _ (t .before .refused .ensures) (t .if1 .left)
+    gave-done presenting _ _ (t .before .refused .ensures) (t .if1 .left)
     (ap (λ (b : Bool). record { answer = Done; value = flag b; end = e .end-of .result }) (c .present .ensures)
-    ∙ ap presence (e .end-of .ensures)) refl refl .0
+    ∙ ap presenting (e .end-of .ensures)) refl refl .0
 
 pub present-spec : {M : Type 1} → statement M
 present-spec =

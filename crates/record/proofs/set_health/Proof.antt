@@ -1,9 +1,9 @@
 -- `set_health` meets its contract: it is refused, or the call on the end that was read.
 -- Assumes nothing.
-use mathlib.Core.Path.{refl, ap, _∙_}
-use Rattle.end.specs.declared.Next.{Next}
-use Rattle.record.specs.Calls.{Result, settingHealth, moved}
-use Rattle.record.proofs.Gave.{good-length, gave-bad, gave-done}
+use mathlib.Core.Path.{ap, _∙_}
+use Rattle.recordspec.specs.Results.{settingHealth, moved}
+use Rattle.recordspec.proofs.Refusing.{good-length}
+use Rattle.record.proofs.Gave.{gave-bad, gave-done}
 use borrow.Author.Needs.{needs}
 use Rattle.record.proofs.set_health.Statement.{statement}
 use Rattle.record.proofs.set_health.Tie as tie
@@ -40,7 +40,8 @@ returns-2 c =
     let e = p .before .before in
     let t = e .before .before .before in
     let next = ap moved (e .set-health .ensures) ∙ ap (settingHealth _) (e .before .end-of .ensures) in
-    gave-done (settingHealth _) _ _ (t .before .refused .ensures) (t .if1 .left) next (p .put-next .ensures .0) (p .put-next .ensures .1)
+    gave-done (settingHealth _) _ _ (t .before .refused .ensures) (t .if1 .left)
+    next (p .put-next .ensures .0) (p .put-next .ensures .1)
 
 pub set-health-spec : {M : Type 1} → statement M
 set-health-spec =

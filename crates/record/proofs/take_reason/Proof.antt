@@ -3,7 +3,8 @@
 use mathlib.Core.Path.{ap, _∙_}
 use Rattle.end.specs.declared.End.{End}
 use Rattle.end.specs.Taking.{takeOf}
-use Rattle.record.proofs.Gave.{good-length, told-bad, told-done}
+use Rattle.recordspec.proofs.Refusing.{good-length}
+use Rattle.record.proofs.Gave.{told-bad, told-done}
 use borrow.Author.Needs.{needs}
 use Rattle.record.proofs.take_reason.Statement.{statement}
 use Rattle.record.proofs.take_reason.Tie as tie

@@ -1,6 +1,7 @@
 -- `upgrade` meets its contract: neither version, a wrong size, or the record of before as one of now.
 -- Assumes nothing.
-use Rattle.record.proofs.Gave.{one-of-two, upgrade-bad, upgrade-size, upgrade-done}
+use Rattle.recordspec.proofs.Refusing.{one-of-two}
+use Rattle.record.proofs.Gave.{upgrade-bad, upgrade-size, upgrade-done}
 use borrow.Author.Needs.{needs}
 use Rattle.record.proofs.upgrade.Statement.{statement}
 use Rattle.record.proofs.upgrade.Tie as tie

@@ -1,6 +1,5 @@
 -- `numbered` meets its contract: the number is the answer's.
 -- Assumes nothing.
-use mathlib.Core.Path.{_∙_}
 use borrow.Author.Needs.{needs}
 use Rattle.simhadol.proofs.numbered.Statement.{statement}
 use Rattle.simhadol.proofs.numbered.Tie as tie

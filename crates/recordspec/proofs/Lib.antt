@@ -1,0 +1,10 @@
+pub mod Bytes
+pub mod Parts
+pub mod Written
+pub mod Accepted
+pub mod Before
+pub mod Wrong
+pub mod Versions
+pub mod Refusing
+pub mod Results
+pub mod Cases

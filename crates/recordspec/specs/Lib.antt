@@ -1,0 +1,3 @@
+pub mod Record
+pub mod Results
+pub mod Cases

@@ -1,11 +1,7 @@
 // Two ends and the two lines between them.
+use benchcommands::Side;
 use end::End;
 ghost use Prim.Native.Nat.{_≤_, _<_};
-
-pub enum Side {
-    A,
-    B,
-}
 
 // How many symbols are kept of each line: more than the longest delay.
 const KEPT: usize = 8192;

@@ -1,26 +1,18 @@
 // The commands on lists: check, find, crc and build.
-use crate::command::BUILD;
-use crate::command::CHECK;
-use crate::command::CRC;
-use crate::command::FIND;
-use crate::fault::Fault;
-use crate::print;
-use crate::words::HEX;
-use crate::words::MOST;
-use crate::words::Number;
-use crate::words::next;
-use crate::words::spelled;
+use benchcommands::command::BUILD;
+use benchcommands::command::CHECK;
+use benchcommands::command::CRC;
+use benchcommands::command::FIND;
 use frame::reason::Reason;
+use text::fault::Fault;
+use text::lists::Listed;
+use text::lists::read;
+use text::numbers::MOST;
+use text::print;
 ghost use mathlib.Core.Path.{_≡_};
 ghost use Prim.Native.Nat.{_≤_, _+_};
 ghost use lib.ListN.{length};
-ghost use Rattle.bench.specs.Bounds.{Counted, Room};
-
-// How many numbers were read, or what was wrong with one.
-pub enum Listed {
-    Count(usize),
-    Wrong(Fault),
-}
+ghost use Rattle.console.specs.Ready.{Room};
 
 // The answer to the command of a name, whose list stands from a place on.
 pub fn answered(
@@ -43,45 +35,13 @@ pub fn answered(
 }
 
 // The largest number of a command's list.
-fn largest(name: usize) -> u32
+fn largest(name: usize) -> u64
     ensures { λ r. ⌜ r ≤ 65535 ⌝ }
 {
     match name {
         CRC | BUILD => 255,
         _ => MOST,
     }
-}
-
-// The words from a place on, as hex numbers.
-fn read(line: &[u8], from: usize, most: u32, symbols: &mut [u16]) -> Listed
-    requires { ⌜ from ≤ length (now line) ⌝ }
-    requires { ⌜ most ≤ 65535 ⌝ }
-    ensures { λ r. ⌜ Counted r (now (symbols .exit)) ⌝ }
-{
-    let mut count = 0;
-    let mut at = from;
-    while at < line.len() {
-        let word = next(line, at);
-        let start = word.start;
-        let end = word.end;
-        if start >= end {
-            return Listed::Count(count);
-        }
-        if count >= symbols.len() {
-            return Listed::Wrong(Fault::Count);
-        }
-        match spelled(&line[start..end], HEX, most) {
-            Number::Wrong(fault) => {
-                return Listed::Wrong(fault);
-            }
-            Number::Value(value) => {
-                symbols[count] = value;
-                count += 1;
-                at = end;
-            }
-        }
-    }
-    Listed::Count(count)
 }
 
 // The answer to the command of a name on its list.
@@ -104,7 +64,7 @@ fn check(list: &[u16], out: &mut [u8], at: usize) -> usize
     let checked = frame::check(list);
     let answer = checked.answer;
     let reason = checked.reason;
-    let told = print::answer(out, at, answer);
+    let told = print::small(out, at, answer::number(answer));
     let put = failed(out, told, reason);
     print::byte(out, put, b'\n')
 }
@@ -130,19 +90,10 @@ fn find(list: &[u16], out: &mut [u8], at: usize) -> usize
     let found = finder::place(list);
     let stretch = finder::find(list);
     let answer = found.answer;
-    let told = print::answer(out, at, answer);
-    let placed = spaced(out, told, found.place);
-    let put = spaced(out, placed, stretch.len());
+    let told = print::small(out, at, answer::number(answer));
+    let placed = print::spaced(out, told, found.place as u64);
+    let put = print::spaced(out, placed, stretch.len() as u64);
     print::byte(out, put, b'\n')
-}
-
-// A space and a number.
-fn spaced(out: &mut [u8], at: usize, value: usize) -> usize
-    requires { ⌜ at + 21 ≤ length (now out) ⌝ }
-    ensures { λ r. ⌜ r ≤ at + 21 ⌝ }
-{
-    let put = print::byte(out, at, b' ');
-    print::decimal(out, put, value as u64)
 }
 
 fn crc(list: &[u16], out: &mut [u8], at: usize) -> usize
@@ -154,9 +105,9 @@ fn crc(list: &[u16], out: &mut [u8], at: usize) -> usize
     }
     let bytes = ten(list);
     let crc = frame::crc(bytes);
-    let low = print::hex(out, at, crc % 256, 2);
+    let low = print::hex(out, at, (crc % 256) as u64, 2);
     let space = print::byte(out, low, b' ');
-    let high = print::hex(out, space, crc / 256, 2);
+    let high = print::hex(out, space, (crc / 256) as u64, 2);
     print::byte(out, high, b'\n')
 }
 
@@ -172,11 +123,15 @@ fn build(list: &[u16], out: &mut [u8], at: usize) -> usize
     let mut put = at;
     let mut i = 0;
     while i < 12 {
-        let digits = print::hex(out, put, symbols[i], 3);
+        let digits = print::hex(out, put, wide(symbols[i]), 3);
         put = print::closing(out, digits, i == 11);
         i += 1;
     }
     put
+}
+
+fn wide(symbol: u16) -> u64 {
+    symbol as u64
 }
 
 // Ten numbers as bytes.

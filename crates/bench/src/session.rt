@@ -1,17 +1,18 @@
 // A line's answer.
-use crate::act;
-use crate::call::Call;
-use crate::command;
-use crate::command::Command;
 use crate::link;
 use crate::link::Link;
 use crate::link::SENT;
-use crate::link::Side;
 use crate::lists;
-use crate::print;
+use benchcommands::Side;
+use benchcommands::call::Call;
+use benchcommands::command;
+use benchcommands::command::Command;
+use benchends::act;
+use text::print;
+use text::words::first_word;
 ghost use Prim.Native.Nat.{_≤_};
 ghost use lib.ListN.{length};
-ghost use Rattle.bench.specs.Bounds.{Room};
+ghost use Rattle.console.specs.Ready.{Room};
 
 // The link after a line, and where the output goes on.
 pub struct Answered {
@@ -31,7 +32,7 @@ pub fn answer(
     requires { ⌜ Room at (now out) ⌝ }
     ensures { λ r. ⌜ r .at ≤ length (now (out .exit)) ⌝ }
 {
-    let first = command::first_word(line);
+    let first = first_word(line, &command::COMMANDS);
     let name = first.name;
     let after = first.after;
     if first.asks {

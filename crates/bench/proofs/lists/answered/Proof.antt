@@ -28,7 +28,7 @@ part-answer-start c = search needs
 part-answer-end : tie.Need-part-answer-end
 part-answer-end c =
     let read = c .before .before .before .before .before .before .read in
-    rw (c .before .before .count .given .1) at (read .ensures)
+    (rw (c .before .before .count .given .1) at (read .ensures)) .0
 
 answer-requires : tie.Need-answer-requires
 answer-requires c κs = search needs

@@ -32,11 +32,14 @@ build-requires c κs = search needs
 loop-holds : tie.Need-loop-holds Inv-loop μ-loop
 loop-holds c = search needs
 
-mul-hex : tie.Need-mul-hex Inv-loop μ-loop
-mul-hex c = search needs
+mul-wide : tie.Need-mul-wide Inv-loop μ-loop
+mul-wide c = search needs
 
-array-read-hex : tie.Need-array-read-hex Inv-loop μ-loop
-array-read-hex c = search needs
+array-read-wide : tie.Need-array-read-wide Inv-loop μ-loop
+array-read-wide c = search needs
+
+wide-requires : tie.Need-wide-requires Inv-loop μ-loop
+wide-requires c κs = search needs
 
 hex-requires : tie.Need-hex-requires Inv-loop μ-loop
 hex-requires c κs = search needs
@@ -71,8 +74,9 @@ build-spec =
     ten-requires
     build-requires
     loop-holds
-    mul-hex
-    array-read-hex
+    mul-wide
+    array-read-wide
+    wide-requires
     hex-requires
     closing-requires
     add-i

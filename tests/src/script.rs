@@ -1,25 +1,24 @@
-//! A script of commands, answered by the second implementation as it is written: a writer of scripts can look at the
-//! ends as they then stand.
+//! A script of commands, answered by a console of the second implementation as it is written: a writer of scripts can
+//! look at the console as it then stands.
 
-use crate::console::Console;
-use crate::end::End;
+use crate::console::{digit, Console};
 use crate::proved;
 use std::fmt::Arguments;
 use std::io::Write;
 
-pub struct Script {
+pub struct Script<C> {
     pub seed: u64,
     pub text: Vec<u8>,
     pub expected: Vec<u8>,
     pub lines: usize,
     /// How many of the lines are calls on an end.
     pub calls: usize,
-    console: Console,
+    console: C,
 }
 
-impl Script {
-    pub fn new(seed: u64) -> Script {
-        Script { seed, text: Vec::new(), expected: Vec::new(), lines: 0, calls: 0, console: Console::new() }
+impl<C: Console> Script<C> {
+    pub fn new(seed: u64) -> Script<C> {
+        Script { seed, text: Vec::new(), expected: Vec::new(), lines: 0, calls: 0, console: C::default() }
     }
 
     /// Adds a line. For use as `script.say(format_args!("a take {:X}", symbol))`.
@@ -43,12 +42,16 @@ impl Script {
         self.answer(start);
     }
 
-    /// Adds a command with its list of symbols.
+    /// Adds a command with its list of symbols, of three digits or four.
     pub fn say_list(&mut self, command: &str, list: &[u16]) {
         let start = self.text.len();
         self.text.extend_from_slice(command.as_bytes());
         for symbol in list {
-            write!(self.text, " {:03X}", symbol).expect("memory takes what is written");
+            self.text.push(b' ');
+            if *symbol > 0xFFF {
+                self.text.push(digit(symbol >> 12));
+            }
+            self.text.extend([symbol >> 8, symbol >> 4, *symbol].map(digit));
         }
         self.answer(start);
         self.text.push(b'\n');
@@ -60,8 +63,8 @@ impl Script {
         self.calls += usize::from(is_call(&self.text[start..]));
     }
 
-    pub fn end(&self, side: usize) -> &End {
-        &self.console.link.ends[side]
+    pub fn console(&self) -> &C {
+        &self.console
     }
 
     /// What the last line printed.
@@ -82,7 +85,7 @@ impl Script {
 
     /// Names the command that the printed line `index` answers.
     fn explain(&self, index: usize, printed: &[u8]) -> String {
-        let mut console = Console::new();
+        let mut console = C::default();
         let mut out = Vec::new();
         let mut said = 0;
         let mut command = (0, "(nothing more was asked)".to_string());

@@ -1,7 +1,7 @@
 //! `soak SECONDS [SEED]`: random scripts of every kind through both implementations, until the time is up or they
 //! differ.
 
-use second::generate::KINDS;
+use second::t1::generate::KINDS;
 use std::env;
 use std::process::ExitCode;
 use std::time::{Duration, Instant, SystemTime, UNIX_EPOCH};

@@ -1,7 +1,5 @@
 // The bench: a console on two ends and the link between them, on the frame check and on the finder. It reads commands,
 // one a line, and writes one line for each.
-mod link;
-mod lists;
 mod serve;
 mod session;
 
@@ -12,6 +10,6 @@ fn main() {
     let mut text = [0u8; console::HELD];
     let mut symbols = [0u16; LISTED];
     let mut out = [0u8; console::GATHERED];
-    let mut sent = [0u16; link::SENT];
+    let mut sent = [0u16; benchlink::SENT];
     serve::serve(&mut text, &mut symbols, &mut out, &mut sent);
 }

@@ -1,8 +1,7 @@
 // The bench's loop.
-use crate::link;
-use crate::link::Link;
-use crate::link::SENT;
 use crate::session;
+use benchlink::Link;
+use benchlink::SENT;
 use console::Console;
 ghost use Prim.Native.Nat.{_≤_};
 ghost use lib.ListN.{length};
@@ -20,7 +19,7 @@ pub struct After {
 pub fn serve(text: &mut [u8], symbols: &mut [u16], out: &mut [u8], sent: &mut [u16; SENT])
     requires { ⌜ 4128 ≤ length (now out) ⌝ }
 {
-    let mut link = link::start(0, 0);
+    let mut link = benchlink::start(0, 0);
     let mut console = console::start();
     let mut turns = u64::MAX;
     while turns > 0 {

@@ -1,13 +1,12 @@
 // A line's answer.
-use crate::link;
-use crate::link::Link;
-use crate::link::SENT;
-use crate::lists;
 use benchcommands::Side;
 use benchcommands::call::Call;
 use benchcommands::command;
 use benchcommands::command::Command;
-use benchends::act;
+use benchfields::dump;
+use benchfields::set;
+use benchlink::Link;
+use benchlink::SENT;
 use text::print;
 use text::words::first_word;
 ghost use Prim.Native.Nat.{_≤_};
@@ -58,7 +57,7 @@ fn asked(
 {
     match name {
         command::CHECK..=command::BUILD => {
-            let put = lists::answered(name, line, from, symbols, out, at);
+            let put = benchlists::answered(name, line, from, symbols, out, at);
             Answered { link, at: put }
         }
         _ => {
@@ -85,7 +84,7 @@ fn perform(
             Answered { link, at: put }
         }
         Command::Link(to_b, to_a) => {
-            let next = link::start(to_b, to_a);
+            let next = benchlink::start(to_b, to_a);
             let put = print::text(out, at, b"ok\n");
             Answered {
                 link: next,
@@ -93,7 +92,7 @@ fn perform(
             }
         }
         Command::Slot(count) => {
-            let next = link::after_slots(link, count, sent);
+            let next = benchlink::after_slots(link, count, sent);
             let put = slotted(next.slots, out, at);
             Answered {
                 link: next,
@@ -101,7 +100,7 @@ fn perform(
             }
         }
         Command::Mark(side, count) => {
-            let next = link::with_marks(link, side, count);
+            let next = benchlink::with_marks(link, side, count);
             let put = print::text(out, at, b"ok\n");
             Answered {
                 link: next,
@@ -109,6 +108,15 @@ fn perform(
             }
         }
         Command::On(side, call) => called(link, side, call, out, at),
+        Command::Dump(side) => dumped(link, side, out, at),
+        Command::Set(side, field, i, value) => {
+            let next = set_in(link, side, field, i, value);
+            let put = print::text(out, at, b"ok\n");
+            Answered {
+                link: next,
+                at: put,
+            }
+        }
     }
 }
 
@@ -127,12 +135,29 @@ fn called(link: Link, side: Side, call: Call, out: &mut [u8], at: usize) -> Answ
     requires { ⌜ Room at (now out) ⌝ }
     ensures { λ r. ⌜ r .at ≤ length (now (out .exit)) ⌝ }
 {
-    let end = link::end_of(link, side);
-    let done = act::call_on(end, call, out, at);
+    let end = benchlink::end_of(link, side);
+    let done = benchends::call_on(end, call, out, at);
     let next = done.end;
-    let after = link::with_end(link, side, next);
+    let after = benchlink::with_end(link, side, next);
     Answered {
         link: after,
         at: done.at,
     }
+}
+
+// The whole end of a side is printed.
+fn dumped(link: Link, side: Side, out: &mut [u8], at: usize) -> Answered
+    requires { ⌜ Room at (now out) ⌝ }
+    ensures { λ r. ⌜ r .at ≤ length (now (out .exit)) ⌝ }
+{
+    let end = benchlink::end_of(link, side);
+    let put = dump::dumped(end, out, at);
+    Answered { link, at: put }
+}
+
+// Element i of a field of a side's end is written.
+fn set_in(link: Link, side: Side, field: usize, i: usize, value: u16) -> Link {
+    let end = benchlink::end_of(link, side);
+    let next = set::written(end, field, i, value);
+    benchlink::with_end(link, side, next)
 }

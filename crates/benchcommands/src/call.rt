@@ -16,7 +16,7 @@ use text::words::past_word;
 ghost use Prim.Native.Nat.{_≤_};
 ghost use lib.ListN.{length};
 
-// A call on an end. What set writes is a field's place, the element, and the value.
+// A call on an end.
 pub enum Call {
     Reset,
     Send,
@@ -25,11 +25,9 @@ pub enum Call {
     Write(u16, u16),
     Health(u16),
     Present,
-    Dump,
-    Set(usize, usize, u16),
 }
 
-// The calls' names, and the place of each.
+// What a line can ask of an end, and the place of each name.
 const CALLS: [u8; 50] = *b"reset send take read write health present dump set";
 
 const RESET: usize = 0;
@@ -50,7 +48,7 @@ const DUMP: usize = 7;
 
 const SET: usize = 8;
 
-// The call on an end that stands from a place on.
+// What is asked of the end of a side, from a place on.
 pub fn on(side: Side, line: &[u8], from: usize) -> Command
     requires { ⌜ from ≤ length (now line) ⌝ }
 {
@@ -59,25 +57,25 @@ pub fn on(side: Side, line: &[u8], from: usize) -> Command
     let end = word.end;
     let name = index_of(&CALLS, &line[start..end]);
     match name {
-        RESET => bare(side, Call::Reset, line, end),
-        SEND => bare(side, Call::Send, line, end),
+        RESET => bare(Command::On(side, Call::Reset), line, end),
+        SEND => bare(Command::On(side, Call::Send), line, end),
         TAKE => take(side, line, end),
         READ => read(side, line, end),
         WRITE => write(side, line, end),
         HEALTH => health(side, line, end),
-        PRESENT => bare(side, Call::Present, line, end),
-        DUMP => bare(side, Call::Dump, line, end),
+        PRESENT => bare(Command::On(side, Call::Present), line, end),
+        DUMP => bare(Command::Dump(side), line, end),
         SET => set(side, line, end),
         _ => Command::Wrong(Fault::Call),
     }
 }
 
-// A call of one word.
-fn bare(side: Side, call: Call, line: &[u8], from: usize) -> Command
+// What takes no further word.
+fn bare(command: Command, line: &[u8], from: usize) -> Command
     requires { ⌜ from ≤ length (now line) ⌝ }
 {
     if is_last(line, from) {
-        return Command::On(side, call);
+        return command;
     }
     Command::Wrong(Fault::Extra)
 }
@@ -155,6 +153,6 @@ fn set_element(side: Side, field: usize, i: usize, line: &[u8], from: usize) -> 
     let most = fields::largest(field);
     match last_number(line, from, HEX, most) {
         Number::Wrong(fault) => Command::Wrong(fault),
-        Number::Value(value) => Command::On(side, Call::Set(field, i, value)),
+        Number::Value(value) => Command::Set(side, field, i, value),
     }
 }

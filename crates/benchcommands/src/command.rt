@@ -15,13 +15,16 @@ use text::words::past_word;
 ghost use Prim.Native.Nat.{_≤_};
 ghost use lib.ListN.{length};
 
-// A command that was read whole, or what was wrong with it.
+// A command that was read whole, or what was wrong with it. What set writes is a field's place, the element, and the
+// value.
 pub enum Command {
     Wrong(Fault),
     Link(u16, u16),
     Slot(u16),
     Mark(Side, u16),
     On(Side, Call),
+    Dump(Side),
+    Set(Side, usize, usize, u16),
 }
 
 // The first words of a line, and the place of each.

@@ -1,9 +1,9 @@
--- `bench::lists::ten` is safe and ends.
+-- `benchlists::ten` is safe and ends.
 -- Assumes nothing.
 use Prim.Native.Nat.{_≤_, _-_}
 use borrow.Author.Needs.{needs}
-use Rattle.bench.proofs.lists.ten.Statement.{statement}
-use Rattle.bench.proofs.lists.ten.Tie as tie
+use Rattle.benchlists.proofs.ten.Statement.{statement}
+use Rattle.benchlists.proofs.ten.Tie as tie
 
 abbrev Inv-loop : tie.InvT-loop
 Inv-loop list bytes₀ i₀ bytes i = i ≤ 10

@@ -1,8 +1,8 @@
--- `bench::lists::answered` meets its contract. As many numbers as were read stand in the buffer: they are a part of it.
+-- `benchlists::answered` meets its contract. As many numbers as were read stand in the buffer: they are a part of it.
 -- Assumes nothing.
 use borrow.Author.Needs.{needs}
-use Rattle.bench.proofs.lists.answered.Statement.{statement}
-use Rattle.bench.proofs.lists.answered.Tie as tie
+use Rattle.benchlists.proofs.answered.Statement.{statement}
+use Rattle.benchlists.proofs.answered.Tie as tie
 
 largest-requires : tie.Need-largest-requires
 largest-requires c κs = search needs

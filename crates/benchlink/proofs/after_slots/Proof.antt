@@ -1,8 +1,8 @@
--- `bench::link::after_slots` is safe and ends. Nothing has to hold from slot to slot.
+-- `benchlink::after_slots` is safe and ends. Nothing has to hold from slot to slot.
 -- Assumes nothing.
 use borrow.Author.Needs.{needs}
-use Rattle.bench.proofs.link.after_slots.Statement.{statement}
-use Rattle.bench.proofs.link.after_slots.Tie as tie
+use Rattle.benchlink.proofs.after_slots.Statement.{statement}
+use Rattle.benchlink.proofs.after_slots.Tie as tie
 
 abbrev Inv-loop : tie.InvT-loop
 Inv-loop count sent₀ after₀ left₀ sent after left = Unit {0}

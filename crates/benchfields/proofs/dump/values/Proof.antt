@@ -1,11 +1,11 @@
--- `bench::dump::values` meets its contract: four digits and a comma are the most that an element takes.
+-- `benchfields::dump::values` meets its contract: four digits and a comma are the most that an element takes.
 -- Assumes nothing.
 use Prim.Native.Nat.{_≤_, _-_, _+_, _*_}
 use mathlib.Core.Path.{_≡_}
 use borrow.Author.Needs.{needs}
 use lib.ListN.{length}
-use Rattle.benchends.proofs.dump.values.Statement.{statement}
-use Rattle.benchends.proofs.dump.values.Tie as tie
+use Rattle.benchfields.proofs.dump.values.Statement.{statement}
+use Rattle.benchfields.proofs.dump.values.Tie as tie
 
 abbrev Inv-loop : tie.InvT-loop
 Inv-loop end field out₀ at count put₀ i₀ out put i = (put + 1 ≤ at + 5 * i) × (i ≤ 12) × (length out ≡ length out₀)

@@ -1,11 +1,11 @@
--- `bench::lists::build` meets its contract: a symbol takes four bytes.
+-- `benchlists::build` meets its contract: a symbol takes four bytes.
 -- Assumes nothing.
 use Prim.Native.Nat.{_≤_, _-_, _+_, _*_}
 use mathlib.Core.Path.{_≡_}
 use borrow.Author.Needs.{needs}
 use lib.ListN.{length}
-use Rattle.bench.proofs.lists.build.Statement.{statement}
-use Rattle.bench.proofs.lists.build.Tie as tie
+use Rattle.benchlists.proofs.build.Statement.{statement}
+use Rattle.benchlists.proofs.build.Tie as tie
 
 abbrev Inv-loop : tie.InvT-loop
 Inv-loop list out₀ at symbols put₀ i₀ out put i =

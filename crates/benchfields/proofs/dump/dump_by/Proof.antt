@@ -1,12 +1,12 @@
--- `bench::dump::dump_by` meets its contract: a field takes its name and 62 bytes at most, and
+-- `benchfields::dump::dump_by` meets its contract: a field takes its name and 62 bytes at most, and
 -- there are no more than forty.
 -- Assumes nothing.
 use Prim.Native.Nat.{_≤_, _-_, _+_, _*_}
 use mathlib.Core.Path.{_≡_}
 use borrow.Author.Needs.{needs}
 use lib.ListN.{length}
-use Rattle.benchends.proofs.dump.dump_by.Statement.{statement}
-use Rattle.benchends.proofs.dump.dump_by.Tie as tie
+use Rattle.benchfields.proofs.dump.dump_by.Statement.{statement}
+use Rattle.benchfields.proofs.dump.dump_by.Tie as tie
 
 abbrev Inv-loop : tie.InvT-loop
 Inv-loop names end out₀ at put₀ from₀ field₀ out put from field =

@@ -1,5 +1,6 @@
 -- Ends and their parts with something changed: what a definition does not name stays as it was.
 --   withSender e s, withOutbox e o, withInbox e i   the end e with another part
+--   beside k p e   the end e, with the counts k and the presence p for its own
 --   atPosition, withSymbols, withToggle, withReady, withHealthToSend, withLoaded   a sender with another field
 --   withPending, withRegister, withReceived, withConfirmed, withNumber, withPing, withBytes   an outbox likewise
 --   withFull   an inbox likewise
@@ -7,6 +8,7 @@
 use Prim.Native.Nat.{ℕ}
 use mathlib.Core.Bool.{Bool}
 use mathlib.Core.List.{List}
+use Rattle.receiver.specs.declared.Counts.{Counts}
 use Rattle.receiver.specs.declared.Inbox.{Inbox}
 use Rattle.end.specs.declared.End.{End}
 use Rattle.end.specs.declared.Outbox.{Outbox}
@@ -45,6 +47,17 @@ withInbox e p = record {
   inbox = p;
   counts = e .counts;
   presence = e .presence;
+}
+
+abbrev pub beside : Counts → ℕ → End → End
+beside k p e = record {
+  sender = e .sender;
+  outbox = e .outbox;
+  collector = e .collector;
+  heard = e .heard;
+  inbox = e .inbox;
+  counts = k;
+  presence = p;
 }
 
 -- The sender

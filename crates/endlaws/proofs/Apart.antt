@@ -30,8 +30,9 @@ use Rattle.receiver.specs.Receiving.{placed, accepts}
 use Rattle.end.specs.Taking.{taken, takeOf}
 use Rattle.end.specs.Registers.{outside, readOnly, readOnlyBits, blocked, readOf, writeOf, healthOf}
 use Rattle.receiver.proofs.Laws.{accepts-reason}
+use Rattle.end.specs.Parts.{beside}
 use Rattle.end.specs.Calls.{Call, after, calls}
-use Rattle.endlaws.specs.Presence.{leftBy, beside}
+use Rattle.endlaws.specs.Presence.{leftBy}
 use Rattle.endlaws.specs.Reasons.{reasonsOf, reasons}
 use Rattle.endlaws.proofs.Done.{after-keeps}
 use Rattle.endlaws.proofs.Goods.{good, left-below}

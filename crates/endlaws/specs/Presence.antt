@@ -3,7 +3,6 @@
 --   lapses bs n      what is left of n after symbols taken, bs saying with which of them a frame was accepted
 --   FrameWithin n ts   twelve symbols of ts in a row are acceptable, and fewer than n came later
 --   Steady s ts      each of ts is the symbol s, or a marked one
---   beside k p e     the end e, with the counts k and the presence p for its own
 -- Assumes nothing.
 use Prim.Native.Nat.{ℕ, _<_}
 use mathlib.Core.Bool.{Bool, true, cond}
@@ -15,8 +14,6 @@ use lib.ListN.{length}
 use Rattle.answer.specs.Number.{numberOf}
 use Rattle.frame.specs.Frame.{marked, acceptable}
 use Rattle.frame.specs.Reason.{isAccepted}
-use Rattle.receiver.specs.declared.Counts.{Counts}
-use Rattle.end.specs.declared.End.{End}
 use Rattle.end.specs.declared.Taken.{Taken}
 use Rattle.receiver.specs.Presence.{leftAfter}
 
@@ -38,14 +35,3 @@ pub record FrameWithin (n : ℕ) (ts : List ℕ) : Type 0 where
 abbrev pub Steady : ℕ → List ℕ → Type 0
 Steady s [] = Unit {0}
 Steady s (t ∷ ts) = ((t ≡ s) ⊎ (marked t ≡ true)) × Steady s ts
-
-abbrev pub beside : Counts → ℕ → End → End
-beside k p e = record {
-  sender = e .sender;
-  outbox = e .outbox;
-  collector = e .collector;
-  heard = e .heard;
-  inbox = e .inbox;
-  counts = k;
-  presence = p;
-}

@@ -21,7 +21,7 @@ use Rattle.laws.proofs.Decide.{Decides, hit, skip, pass}
 use Rattle.recordspec.specs.Record.{size, recordOf, endOf, refused, Wrong}
 use Rattle.recordspec.specs.Results.{result}
 use Rattle.recordspec.proofs.Accepted.{accepted-back, accepted-good}
-use Rattle.recordspec.proofs.Results.{refuses}
+use Rattle.record.proofs.Results.{refuses}
 use Rattle.recordspec.proofs.Wrong.{wrong, not-refused}
 use Rattle.record.specs.Calls.{Called, through, resetting, badRecord, stored}
 use Rattle.record.specs.Runs.{called}

@@ -1,3 +1,4 @@
+pub mod Results
 pub mod Gave
 pub mod Answers
 pub mod Through

@@ -31,7 +31,7 @@ use Rattle.end.proofs.Guards.{reset-shaped}
 use Rattle.recordspec.specs.Record.{size, flag, recordOf, endOf, refused}
 use Rattle.recordspec.specs.Results.{Result, sending, taking, reading, writing, settingHealth, presenting, result}
 use Rattle.recordspec.proofs.Accepted.{accepted-back, accepted-good, accepted-shape}
-use Rattle.recordspec.proofs.Results.{after-end}
+use Rattle.record.proofs.Results.{after-end}
 use Rattle.recordspec.proofs.Written.{read-back, written-accepted}
 use Rattle.record.specs.declared.Reply.{Reply}
 use Rattle.record.specs.Calls.{Called, through, stored, resetting, badReply, badRecord, reasonThrough, toldBy}

@@ -41,7 +41,7 @@ use Rattle.laws.proofs.Bools.{or-no}
 use Rattle.end.proofs.Laws.{good}
 use Rattle.end.specs.Calls.{Call, after, calls}
 use Rattle.endlaws.specs.Counted.{grown}
-use Rattle.endlaws.specs.Presence.{beside}
+use Rattle.end.specs.Parts.{beside}
 use Rattle.endlaws.specs.Reasons.{reasons}
 use Rattle.end.specs.Shape.{Shaped}
 use Rattle.endlaws.specs.Taken.{takes, lastOf, acceptances, some}
@@ -59,7 +59,7 @@ use Rattle.recordspec.specs.Results.{presenting, result, asks}
 use Rattle.recordspec.proofs.Accepted.{accepted-back, accepted-good, accepted-shape}
 use Rattle.recordspec.proofs.Before.{before-accepted, newer-good, old-good, old-shape, old-absent, one-read-back}
 use Rattle.recordspec.proofs.Before.{two-read-back, one-kept}
-use Rattle.recordspec.proofs.Results.{after-end}
+use Rattle.record.proofs.Results.{after-end}
 use Rattle.recordspec.proofs.Versions.{WrongOne, WrongTwo, wrong-both}
 use Rattle.recordspec.proofs.Written.{read-back, written-accepted}
 use Rattle.recordspec.proofs.Wrong.{wrong}

@@ -25,7 +25,7 @@ use Rattle.receiver.specs.Counting.{noCounts}
 use Rattle.laws.specs.Above.{above}
 use Rattle.end.specs.Good.{bad}
 use Rattle.laws.proofs.Bools.{or-no}
-use Rattle.endlaws.specs.Presence.{beside}
+use Rattle.end.specs.Parts.{beside}
 use Rattle.end.specs.Shape.{Shaped}
 use Rattle.recordspec.specs.Record.{size, version, sizeOne, versionOne, sizeTwo, versionTwo, two, flag, headOf}
 use Rattle.recordspec.specs.Record.{frontOf, backOf, bodyOf, recordOf, recordBefore, at, flagAt, presenceOf}

@@ -5,7 +5,7 @@ use mathlib.Core.Bool.{Bool}
 use mathlib.Core.Path.{_≡_, refl}
 use Rattle.receiver.specs.Counting.{noCounts}
 use Rattle.end.specs.Good.{resetOf}
-use Rattle.endlaws.specs.Presence.{beside}
+use Rattle.end.specs.Parts.{beside}
 use Rattle.recordspec.specs.Record.{sizeOne, versionOne, sizeTwo, versionTwo, frontOf, backOf, bodyOf, recordOf}
 use Rattle.recordspec.specs.Record.{recordBefore, endOf, without, newer, endBefore}
 use Rattle.recordspec.specs.Cases.{fresh, worked, laid, laidOne, laidTwo}

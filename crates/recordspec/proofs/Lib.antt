@@ -6,5 +6,4 @@ pub mod Before
 pub mod Wrong
 pub mod Versions
 pub mod Refusing
-pub mod Results
 pub mod Cases

@@ -3,6 +3,7 @@
 --   reset-shaped         the end after reset has arrays of the right length, and bytes in them
 --   message-reads-back   what is written to 3.2309 to 3.2312 reads back
 --   message-leaves       and the bytes of the other three stay
+--   control-reads-back   so does what is written to 3.2308, every bit that can be written
 --   seven-*              P7 of document 01: a message written, read back, and sent
 -- Assumes nothing.
 use Prim.Native.Nat.{ℕ, _+_, _*_, _/_, _%_, _<_}
@@ -61,6 +62,12 @@ module _ (e : End) (i v : ℕ) (g : bad e ≡ false) (p : e .outbox .pending ≡
       rw (write-message e i v g p f)
       (getD-set-other (set (e .outbox .bytes) (2 * i) (v % 256)) (2 * i + 1) j (v / 256) 0 b
       ∙ getD-set-other (e .outbox .bytes) (2 * i) j (v % 256) 0 a)
+
+-- 3.2308: bit 15, bits 11:8 and bit 2
+
+control-reads-back : readOf (writeOf resetOf 2308 0x8F04 .end) 2308 .value ≡ 0x8F04
+unfolding above bad readOf writeOf odd
+control-reads-back = refl
 
 -- P7: 3.2309 written 2211, 3.2308 written 8500
 

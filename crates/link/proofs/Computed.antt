@@ -4,11 +4,14 @@
 --   bound-tight   hence the bound cannot be smaller
 --   most-tight    and neither can the number of messages held
 -- Assumes nothing.
-use mathlib.Core.Bool.{xor}
-use mathlib.Core.Path.{refl, sym}
+use mathlib.Core.Bool.{xor, false≢true}
+use mathlib.Core.List.{List, [], _∷_, _++_}
+use mathlib.Core.Path.{_≡_, refl, sym, ap, _∙_}
+use Prim.Native.Nat.{ℕ}
 use native.Mathlib.Nat.{le-of-eq}
 use native.Mathlib.Omega.{arith}
-use lib.ListN.{length}
+use lib.ListN.{length, getD}
+use lib.Seq.{getD-append-seam}
 use Rattle.crc.specs.Bits.{odd, bits, number, oddOnes}
 use Rattle.crc.specs.Crc.{plus, times, shift, run as fed, crc}
 use Rattle.frame.specs.Frame.{generator, stream, crcOf, even, evenSymbol, oddSymbol, symbols, build, crcRight}
@@ -17,16 +20,30 @@ use Rattle.laws.specs.Above.{above}
 use Rattle.end.specs.Good.{bad}
 use Rattle.end.specs.Sending.{acked, frameStart, sendOf}
 use Rattle.end.specs.Taking.{taken, takeOf}
-use Rattle.end.specs.Registers.{readOf, writeOf}
-use Rattle.link.specs.Link.{messageOut, taking, run, ruled}
-use Rattle.link.specs.Demand.{aToB, unmarked, slots, Landed}
+use Rattle.end.specs.Registers.{readOf, writeOf, healthOf}
+use Rattle.link.specs.Link.{Message, Side, aToB, bytesOf, messageWritten, taking, run, ruled}
+use Rattle.link.specs.Demand.{unmarked, slots, Landed}
 use Rattle.link.specs.Tight.{quiet, sixteen, oneSlot, asked, short, late, TooSoon, BoundTight, crowded}
 use Rattle.link.specs.Tight.{MostTight}
-use Rattle.link.specs.Cases.{Cases}
+use Rattle.link.specs.Rule.{looked, took, begun}
+use Rattle.link.specs.Cases.{five, Cases}
+
+-- message 1 is not five
+second-other : {near far : Side} → getD (far .log .entered) 1 five .number ≡ 0 → Landed 1 five near far → ⊥
+second-other {far = far} e t = five-zero (sym (ap (λ (m : Message). m .number) at-one) ∙ e)
+  where
+    five-zero : five .number ≡ 0 → ⊥
+    five-zero e = omega arith
+
+    at-one : getD (far .log .entered) 1 five ≡ five
+    at-one =
+        ap (λ (l : List Message). getD l 1 five) (t .entered .2)
+        ∙ ap (λ (n : ℕ). getD (t .entered .0 ++ five ∷ t .entered .1) n five) (sym (t .entered .3))
+        ∙ getD-append-seam (t .entered .0) five (t .entered .1) five
 
 pub cases : Cases
-unfolding run ruled taking
-    above bad readOf writeOf sendOf acked frameStart taken takeOf
+unfolding run ruled taking bytesOf unmarked slots noneMarked
+    above bad readOf writeOf healthOf sendOf acked frameStart taken takeOf
     odd xor bits number oddOnes plus times shift fed crc
     generator stream crcOf even evenSymbol oddSymbol symbols build crcRight
 cases = record {
@@ -38,27 +55,55 @@ cases = record {
   five-reads = refl;
   not-entered-late = refl;
   entered-late = refl;
+  marked = refl;
+  marked-next = refl;
+  marked-high = refl;
+  marked-other = refl;
+  marked-at-a = refl;
+  marked-at-b = refl;
+  early-mark = refl;
+  early-counts = refl;
+  calls-unmarked = refl;
   not-acknowledged = refl;
   acknowledged = refl;
   untaken = refl;
   refused = refl;
+  refused-bytes = refl;
   refused-bits = refl;
+  last-written = refl;
+  four-bits = refl;
+  as-written = refl;
+  not-shown = refl;
+  shown = refl;
+  looked-at = refl;
+  second-shown = refl;
+  idle-again = record { pending = refl; acknowledged = refl; empty = refl };
+  near-full = refl;
+  landed-first = record { entered = ([], _, refl, refl); acknowledged = omega arith; shown = λ q. refl };
+  not-second = second-other refl;
+  not-unseen = λ t. false≢true (t .shown (omega arith));
   take-ruled = refl;
   looks-ruled = refl;
   no-message = refl;
   out-of-order = refl;
+  others-ruled = refl;
+  others-between = refl;
+  by-document = took 0x8500 1 2 3 4 refl (looked 0x500 refl (begun 2 0x8500 1 0 0 refl));
+  not-asked = refl;
+  near-free = refl;
+  near-asked = refl;
+  anew-ruled = refl;
+  anew = refl;
 }
 
 pub too-soon : TooSoon
-unfolding oneSlot asked late run ruled taking unmarked slots noneMarked
+unfolding oneSlot asked late run taking unmarked slots noneMarked bytesOf
     above bad readOf writeOf sendOf acked frameStart taken takeOf
     odd xor bits number oddOnes plus times shift fed crc
     generator stream crcOf even evenSymbol oddSymbol symbols build crcRight
 too-soon = record {
-  by-rule = refl;
   idle = record { pending = refl; acknowledged = refl; empty = refl };
   accepted = refl;
-  still-by-rule = refl;
   none-marked = refl;
   slots-are = refl;
   not-yet = refl;
@@ -69,11 +114,11 @@ pub bound-tight : BoundTight
 unfolding oneSlot asked late
 bound-tight promise = omega (arith, too-soon .not-yet, landed .acknowledged)
   where
-    landed : Landed (length (oneSlot .a .host .accepted)) (messageOut (asked .a .end)) (late .a) (late .b)
+    landed : Landed (length (oneSlot .a .host .accepted)) (messageWritten 0x8000 (oneSlot .a .host)) (late .a) (late .b)
     landed =
-        promise aToB 1 1 (quiet 1) (too-soon .by-rule) oneSlot refl (too-soon .idle)
+        promise aToB 1 1 (quiet 1) oneSlot refl (too-soon .idle)
         0x8000 sixteen (too-soon .accepted) asked refl
-        (quiet (short 1 1)) (too-soon .still-by-rule) (too-soon .none-marked) (le-of-eq (sym (too-soon .slots-are)))
+        (quiet (short 1 1)) (too-soon .none-marked) (le-of-eq (sym (too-soon .slots-are)))
         late refl
 
 pub most-tight : MostTight

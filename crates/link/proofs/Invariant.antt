@@ -1,5 +1,6 @@
 -- The invariant of a run, both ways, and what follows from it at once.
---   Fit          what one side keeps: its end good, its sender and its line, its collection abreast of what arrived
+--   Fit          what one side keeps: its end good, its sender and its line, its collection abreast of what arrived,
+--                its message bytes those that its host wrote
 --   Inv          both sides, both ways
 --   exchanged    the invariant with the ends exchanged
 --   loaded-next, rank-current, heard-current, pa-loaded, acknowledged-entered, ha-entered, acked-entered
@@ -8,6 +9,7 @@
 pub mod Views
 pub mod Logs
 pub mod OneWay
+pub mod Written
 use Prim.Native.Nat.{ℕ, _+_, _*_, _≤_}
 use mathlib.Core.Bool.{false}
 use mathlib.Core.List.{List}
@@ -22,6 +24,7 @@ use Rattle.link.specs.Link.{Side}
 use Rattle.link.proofs.Line.{Cell, cellAt, frameAt, rank, Line, SenderOk, falls}
 use Rattle.link.proofs.Line.Collecting.{Sync}
 use Rattle.link.proofs.Invariant.OneWay.{Way}
+use Rattle.link.proofs.Invariant.Written.{Stored}
 
 pub record Fit (s : Side) (cs : List Cell) (last : Cell) : Type 0 where
   pub good : bad (s .end) ≡ false
@@ -29,6 +32,7 @@ pub record Fit (s : Side) (cs : List Cell) (last : Cell) : Type 0 where
   pub sender : SenderOk (s .end .sender .position) (s .end .sender .symbols) (s .sent) cs
   pub line : Line cs
   pub sync : Sync (s .end .collector) last
+  pub stored : Stored (s .host .written) (s .end .outbox .bytes)
 
 pub record Inv (a b : Side) (ca cb : List Cell) (D E pa pb : ℕ) : Type 0 where
   pub fit-a : Fit a ca (cellAt cb E)

@@ -1,5 +1,5 @@
--- The invariant holds after every run: each step keeps it, as the files of the folder show.
---   host-kept    after a host's call by the rule
+-- The invariant holds after every run, whatever the hosts do: each step keeps it, as the files of the folder show.
+--   host-kept    after a host's call
 --   Kept D E w   the world w has the invariant, for some cells
 --   reset-kept, step-kept, run-kept   from reset, after an event, after a run
 -- Assumes nothing.
@@ -12,19 +12,18 @@ pub mod Hosting
 pub mod Writing
 pub mod Reading
 use Prim.Native.Nat.{ℕ, suc, _*_, _+_}
-use mathlib.Core.Bool.{true, false, false≢true, true≢false}
+use mathlib.Core.Bool.{false, false≢true, true≢false}
 use mathlib.Core.List.{List, [], _∷_}
 use mathlib.Core.Path.{_≡_, refl, sym, ap, _∙_}
 use native.Mathlib.Nat.{le-refl}
 use native.Mathlib.Omega.{arith}
 use lib.ListN.{length, replicate}
 use Rattle.crc.specs.Bits.{odd}
-use Rattle.laws.proofs.Bools.{and-both}
 use Rattle.end.proofs.Guards.{reset-shaped}
 use Rattle.endlaws.proofs.Goods.{reset-good}
 use Rattle.protocol.specs.Steps.{num}
-use Rattle.link.specs.Link.{Side, World, Access, read, write, health, present, hosted, ruledCall, Event, slot}
-use Rattle.link.specs.Link.{atA, atB, resetSide, resetWorld, step, ruledStep, run, ruled}
+use Rattle.link.specs.Link.{Side, World, Access, read, write, health, present, bytesOf, hosted, Event, slot}
+use Rattle.link.specs.Link.{atA, atB, resetSide, resetWorld, step, run}
 use Rattle.link.proofs.Line.Words.{said, Says, word-says}
 use Rattle.link.proofs.Line.{Cell, silentCell}
 use Rattle.link.proofs.Invariant.OneWay.{DataOk, AckOk, Way}
@@ -34,11 +33,11 @@ use Rattle.link.proofs.Kept.Writing.{write-kept, health-kept}
 use Rattle.link.proofs.Kept.Reading.{read-kept}
 
 pub host-kept : {a b : Side} {ca cb : List Cell} {D E pa pb : ℕ} → Inv a b ca cb D E pa pb → (c : Access)
-    → ruledCall c (a .host) ≡ true → Inv (hosted c a) b ca cb D E pa pb
-host-kept v (read r) q = read-kept v r q
-host-kept v (write r x h) q = write-kept v r x h
-host-kept v (health h) q = health-kept v h
-host-kept v present q = v
+    → Inv (hosted c a) b ca cb D E pa pb
+host-kept v (read r) = read-kept v r
+host-kept v (write r x h) = write-kept v r x h
+host-kept v (health h) = health-kept v h
+host-kept v present = v
 
 pub record Kept (D E : ℕ) (w : World) : Type 0 where
   pub ca : List Cell
@@ -62,6 +61,7 @@ silent-rank : 2 * 0 + num (said (replicate 10 0) .valid) ≡ 0
 silent-rank = rw (silent .valid)
 
 reset-fit : Fit resetSide [] silentCell
+unfolding bytesOf
 reset-fit = record {
   good = reset-good;
   shaped = reset-shaped;
@@ -75,6 +75,7 @@ reset-fit = record {
     entries = λ i. le-refl _;
   };
   sync = record { place = λ h. absurd (omega arith); prefix = refl };
+  stored = record { four = refl; are = refl };
 }
 
 reset-way : (D E : ℕ) → Way resetSide resetSide [] [] D E 0
@@ -88,16 +89,10 @@ reset-way D E = record {
     sent = λ h. absurd (true≢false h);
   };
   filling = record {
+    gone = 0;
     receiving = omega arith;
     register = λ h. absurd (false≢true h);
-    reading = record {
-      within = omega arith;
-      full = λ h. absurd (omega arith);
-      number = λ h. absurd (omega arith);
-      bytes = λ h. absurd (omega arith);
-    };
     entered-is = refl;
-    taken-is = refl;
   };
   hearing = omega arith;
   order = omega arith;
@@ -119,8 +114,8 @@ reset-kept D E = record {
 with-inv : {D E : ℕ} {w x : World} (k : Kept D E w) → Inv (x .a) (x .b) (k .ca) (k .cb) D E (k .pa) (k .pb) → Kept D E x
 with-inv k v = record { ca = k .ca; cb = k .cb; pa = k .pa; pb = k .pb; level = k .level; inv = v }
 
-step-kept : (D E : ℕ) (e : Event) (w : World) → ruledStep e w ≡ true → Kept D E w → Kept D E (step D E e w)
-step-kept D E (slot ha hb) w q k = record {
+pub step-kept : (D E : ℕ) (e : Event) (w : World) → Kept D E w → Kept D E (step D E e w)
+step-kept D E (slot ha hb) w k = record {
   ca = cellOf (w .a) (k .ca) ∷ k .ca;
   cb = cellOf (w .b) (k .cb) ∷ k .cb;
   pa = _;
@@ -128,12 +123,10 @@ step-kept D E (slot ha hb) w q k = record {
   level = ap suc (k .level);
   inv = slot-kept (k .inv) ha hb;
 }
-step-kept D E (atA c) w q k = with-inv k (host-kept (k .inv) c q)
-step-kept D E (atB c) w q k = with-inv k (exchanged (host-kept (exchanged (k .inv)) c q))
+step-kept D E (atA c) w k = with-inv k (host-kept (k .inv) c)
+step-kept D E (atB c) w k = with-inv k (exchanged (host-kept (exchanged (k .inv)) c))
 
-pub run-kept : (D E : ℕ) (es : List Event) (w : World) → ruled D E es w ≡ true → Kept D E w → Kept D E (run D E es w)
-unfolding run ruled
-run-kept D E [] w q k = k
-run-kept D E (e ∷ es) w q k =
-    let p = and-both (ruledStep e w) (ruled D E es (step D E e w)) q in
-    run-kept D E es (step D E e w) (p .1) (step-kept D E e w (p .0) k)
+pub run-kept : (D E : ℕ) (es : List Event) (w : World) → Kept D E w → Kept D E (run D E es w)
+unfolding run
+run-kept D E [] w k = k
+run-kept D E (e ∷ es) w k = run-kept D E es (step D E e w) (step-kept D E e w k)

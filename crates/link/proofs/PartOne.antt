@@ -1,9 +1,9 @@
 -- Demand 3, first part: accepted = taken ++ far register ++ in the sender and not yet entered ++ pending. And beside it
 -- the facts on the log.
 --   take-also      the first so many of what was accepted, with the next one where it stands in a place
---   in-turn, log-facts        what the invariant says of one way
---   always         what follows from the invariant is true after every run, both ways
---   nothing-lost, logs-true   so these are
+--   held-there, few, entered-are, log-facts   what the invariants say of one way
+--   always, by-rule   what follows from them is true after every run, both ways
+--   nothing-lost, held-where, entered-is, logs-true   so these are
 -- Assumes nothing.
 use Prim.Native.Nat.{ℕ, _+_, _≤_, _<_}
 use mathlib.Core.Bool.{Bool, true, false, cond}
@@ -18,14 +18,16 @@ use lib.Seq.{take-suc, take-all}
 use borrow.Author.Tests.{ltb-true, ltb-false}
 use Rattle.protocol.specs.Steps.{num}
 use Rattle.protocol.proofs.Keeps.{pending-below}
-use Rattle.link.specs.Link.{Message, Side, World, resetWorld, messageOut, messageIn, also, run}
-use Rattle.link.specs.Demand.{pendingIn, messageSent, senderHolds, registerHolds, mostHeld, InTurn}
-use Rattle.link.specs.Demand.{Direction, aToB, bToA, near, far, Always, NothingLost}
-use Rattle.link.specs.LogFacts.{LogFacts, LogsTrue}
+use Rattle.link.specs.Link.{Message, Side, World, Direction, aToB, bToA, near, far, resetWorld, messageIn, also}
+use Rattle.link.specs.Demand.{ByRule, Always, mostHeld, InTurn, NothingLost, messageOut, pendingIn, messageSent}
+use Rattle.link.specs.Demand.{senderHolds, registerHolds, held, HeldThere}
+use Rattle.link.specs.LogFacts.{LogFacts, LogsTrue, EnteredIs}
 use Rattle.link.proofs.Line.{Cell}
 use Rattle.link.proofs.Invariant.OneWay.{noMessage}
 use Rattle.link.proofs.Invariant.{Inv, exchanged, acknowledged-entered, loaded-next}
 use Rattle.link.proofs.Kept.{Kept, reset-kept, run-kept}
+use Rattle.link.proofs.Taken.Reading.{Took}
+use Rattle.link.proofs.Taken.{Taker, taker-kept}
 
 take-also : (acc : List Message) (n : ℕ) (b : Bool) (m : Message)
     → (b ≡ true → (n < length acc) × (getD acc n noMessage ≡ m)) → take n acc ++ also b m [] ≡ take (n + num b) acc
@@ -55,17 +57,8 @@ module _ {a b : Side} {ca cb : List Cell} {D E pa pb : ℕ} (v : Inv a b ca cb D
   abbrev ent : ℕ
   ent = length (b .log .entered)
 
-  abbrev tk : ℕ
-  tk = length (b .host .taken)
-
   accepted-is : length acc ≡ a .log .loadCount + num (a .end .outbox .pending)
   accepted-is = v .ab .holding .sending .accepted
-
-  full-there : b .end .inbox .full ≡ true → (tk < length acc) × (getD acc tk noMessage ≡ messageIn (b .end))
-  full-there q = (below (ap num q) (v .ab .filling .receiving .taken) (v .ab .order), v .ab .filling .register q)
-    where
-      below : {f : ℕ} → f ≡ 1 → ent ≡ tk + f → ent ≤ a .log .loadCount → tk < length acc
-      below e f g = omega (arith, accepted-is)
 
   -- a message that was loaded and has not entered is the one in the sender
   sender-there : ltb ent (a .log .loadCount) ≡ true
@@ -90,12 +83,6 @@ module _ {a b : Side} {ca cb : List Cell} {D E pa pb : ℕ} (v : Inv a b ca cb D
       go true t from next order = omega (arith, ltb-true ent (a .log .loadCount) t)
       go false t from next order = omega (arith, ltb-false ent (a .log .loadCount) t)
 
-  register : b .host .taken ++ registerHolds b ≡ take ent acc
-  register =
-      ap (λ (l : List Message). l ++ registerHolds b) (v .ab .filling .taken-is)
-      ∙ take-also acc tk _ _ full-there
-      ∙ ap (λ (n : ℕ). take n acc) (sym (v .ab .filling .receiving .taken))
-
   sender : take ent acc ++ senderHolds a b ≡ take (a .log .loadCount) acc
   sender = take-also acc ent _ _ sender-there ∙ ap (λ (n : ℕ). take n acc) loaded-is
 
@@ -106,26 +93,17 @@ module _ {a b : Side} {ca cb : List Cell} {D E pa pb : ℕ} (v : Inv a b ca cb D
       ∙ ap (λ (n : ℕ). take n acc) (sym accepted-is)
       ∙ take-all (length acc) acc (omega arith)
 
-  in-turn : InTurn a b
-  in-turn = record {
-    whole =
-        sym (sym (append-assoc (b .host .taken) (registerHolds b) (senderHolds a b ++ pendingIn a))
-        ∙ ap (λ (l : List Message). l ++ (senderHolds a b ++ pendingIn a)) register
-        ∙ sym (append-assoc (take ent acc) (senderHolds a b) (pendingIn a))
-        ∙ ap (λ (l : List Message). l ++ pendingIn a) sender
-        ∙ pending);
-    few =
-        three (length-append (registerHolds b) (senderHolds a b ++ pendingIn a))
-        (length-append (senderHolds a b) (pendingIn a)) (also-length (b .end .inbox .full) _)
-        (also-length (ltb ent (a .log .loadCount)) _) (also-length (a .end .outbox .pending) _);
-  }
+  pub few : length (held a b) ≤ mostHeld
+  few =
+      three (length-append (registerHolds b) (senderHolds a b ++ pendingIn a))
+      (length-append (senderHolds a b) (pendingIn a)) (also-length (b .end .inbox .full) _)
+      (also-length (ltb ent (a .log .loadCount)) _) (also-length (a .end .outbox .pending) _)
     where
       three : {x y r s p : ℕ} → x ≡ r + y → y ≡ s + p → r ≤ 1 → s ≤ 1 → p ≤ 1 → x ≤ mostHeld
       three e f g h k = omega arith
 
-  log-facts : LogFacts a b
+  pub log-facts : LogFacts a b
   log-facts = record {
-    entered = v .ab .filling .entered-is ∙ sym register;
     acknowledged = acknowledged-entered v;
     pending =
         accepted-is
@@ -133,19 +111,73 @@ module _ {a b : Side} {ca cb : List Cell} {D E pa pb : ℕ} (v : Inv a b ca cb D
     ready = unready (a .end .sender .ready) (a .log .loadCount) (a .log .ackCount) (v .ab .holding .sending .loaded);
   }
 
-always : (P : Side → Side → Type 0)
-    → ((a b : Side) (ca cb : List Cell) (D E pa pb : ℕ) → Inv a b ca cb D E pa pb → P a b) → Always P
-always P f d D E es q w is = subst (λ (w : World). P (near d w) (far d w)) (sym is) (go d)
-  where
-    k : Kept D E (run D E es resetWorld)
-    k = run-kept D E es resetWorld q (reset-kept D E)
+  -- b's host takes by the rule
+  module _ (t : Took (b .end .inbox) (b .host) (a .host .accepted) (b .log .entered)) where
+    abbrev tk : ℕ
+    tk = length (b .host .taken)
 
-    go : (d : Direction) → P (near d (run D E es resetWorld)) (far d (run D E es resetWorld))
-    go aToB = f _ _ _ _ _ _ _ _ (k .inv)
-    go bToA = f _ _ _ _ _ _ _ _ (exchanged (k .inv))
+    full-there : b .end .inbox .full ≡ true → (tk < length acc) × (getD acc tk noMessage ≡ messageIn (b .end))
+    full-there q = (
+      below (ap num q) (t .count) (v .ab .order),
+      ap (λ (n : ℕ). getD acc n noMessage) (same ent tk (v .ab .filling .gone) (num (b .end .inbox .full)) (t .count)
+          (v .ab .filling .receiving .taken))
+          ∙ v .ab .filling .register q,
+    )
+      where
+        below : {f : ℕ} → f ≡ 1 → ent ≡ tk + f → ent ≤ a .log .loadCount → tk < length acc
+        below e f g = omega (arith, accepted-is)
+
+        same : (x y z f : ℕ) → x ≡ y + f → x ≡ z + f → y ≡ z
+        same x y z f e g = omega arith
+
+    register : b .host .taken ++ registerHolds b ≡ take ent acc
+    register =
+        ap (λ (l : List Message). l ++ registerHolds b) (t .taken-is)
+        ∙ take-also acc tk _ _ full-there
+        ∙ ap (λ (n : ℕ). take n acc) (sym (t .count))
+
+    pub entered-are : b .log .entered ≡ b .host .taken ++ registerHolds b
+    entered-are = v .ab .filling .entered-is ∙ sym register
+
+    pub held-there : acc ≡ b .host .taken ++ held a b
+    held-there =
+        sym (sym (append-assoc (b .host .taken) (registerHolds b) (senderHolds a b ++ pendingIn a))
+        ∙ ap (λ (l : List Message). l ++ (senderHolds a b ++ pendingIn a)) register
+        ∙ sym (append-assoc (take ent acc) (senderHolds a b) (pendingIn a))
+        ∙ ap (λ (l : List Message). l ++ pendingIn a) sender
+        ∙ pending)
+
+abbrev AsKept : Side → Side → Type 0 → Type 0
+AsKept a b P = (ca cb : List Cell) (D E pa pb : ℕ) → Inv a b ca cb D E pa pb → P
+
+kept-so : (P : Side → Side → Type 0) (d : Direction) (D E : ℕ) (w : World) → Kept D E w
+    → AsKept (near d w) (far d w) (P (near d w) (far d w)) → P (near d w) (far d w)
+kept-so P aToB D E w k f = f _ _ _ _ _ _ (k .inv)
+kept-so P bToA D E w k f = f _ _ _ _ _ _ (exchanged (k .inv))
+
+pub always : (P : Side → Side → Type 0) → ((a b : Side) → AsKept a b (P a b)) → Always P
+always P f d D E es w is =
+    kept-so P d D E w (subst (λ (w : World). Kept D E w) (sym is) (run-kept D E es resetWorld (reset-kept D E))) (f _ _)
+
+by-rule : (P : Side → Side → Type 0)
+    → ((a b : Side) → Took (b .end .inbox) (b .host) (a .host .accepted) (b .log .entered) → AsKept a b (P a b))
+    → ByRule P
+by-rule P f d D E es q w is =
+    kept-so P d D E w (subst (λ (w : World). Kept D E w) (sym is) (run-kept D E es resetWorld (reset-kept D E)))
+    (f _ _ (subst (λ (w : World). Taker d w) (sym is) (taker-kept d D E es q)))
 
 pub nothing-lost : NothingLost
-nothing-lost = always InTurn (λ a b ca cb D E pa pb v. in-turn v)
+nothing-lost =
+    by-rule (λ near far. InTurn (near .host .accepted) (far .host .taken))
+    (λ a b t ca cb D E pa pb v. record { rest = held a b; whole = held-there v t; few = few v })
+
+pub held-where : HeldThere
+held-where = by-rule (λ near far. near .host .accepted ≡ far .host .taken ++ held near far)
+    (λ a b t ca cb D E pa pb v. held-there v t)
 
 pub logs-true : LogsTrue
 logs-true = always LogFacts (λ a b ca cb D E pa pb v. log-facts v)
+
+pub entered-is : EnteredIs
+entered-is = by-rule (λ near far. far .log .entered ≡ far .host .taken ++ registerHolds far)
+    (λ a b t ca cb D E pa pb v. entered-are v t)

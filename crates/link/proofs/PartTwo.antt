@@ -21,19 +21,20 @@ use native.Mathlib.Nat.{le-of-eq, zero-add}
 use native.Mathlib.Numerals.{one-add}
 use native.Mathlib.Omega.{arith}
 use lib.ListN.{length, getD, take, drop}
+use borrow.Author.Tests.{lt-ltb}
 use lib.Seq.{split-at, length-take-le, getD-take, getD-append-seam}
 use Rattle.laws.proofs.Bools.{and-both, and-true}
 use Rattle.protocol.specs.Steps.{num}
-use Rattle.link.specs.Link.{Message, Side, World, Event, slot, atA, atB, write, hosted, acceptsNow, messageOut}
-use Rattle.link.specs.Link.{sound, resetWorld, step, ruledStep, run, ruled}
-use Rattle.link.specs.Demand.{Direction, aToB, bToA, near, far, atNear, Idle, unmarkedStep, unmarked, slots}
-use Rattle.link.specs.Demand.{bound, Landed, Delivered}
+use Rattle.link.specs.Link.{Message, Side, World, Direction, aToB, bToA, near, far, Event, slot, atA, atB, write}
+use Rattle.link.specs.Link.{hosted, acceptsNow, messageWritten, sound, resetWorld, step, run}
+use Rattle.link.specs.Demand.{atNear, Idle, unmarkedStep, unmarked, slots, bound, Landed, Delivered}
 use Rattle.link.proofs.Line.{Cell}
 use Rattle.link.proofs.Invariant.Logs.{length-more}
 use Rattle.link.proofs.Invariant.OneWay.{noMessage}
 use Rattle.link.proofs.Invariant.{Inv, exchanged, acknowledged-entered}
 use Rattle.link.proofs.Kept.Slot.{cellOf, both-sent, slot-kept}
-use Rattle.link.proofs.Kept.{Kept, reset-kept, host-kept, run-kept}
+use Rattle.link.proofs.Kept.{Kept, reset-kept, host-kept, step-kept, run-kept}
+use Rattle.link.proofs.Shows.{Shows, BothShow, step-shows, run-shows, reset-shows, near-shows, received-is}
 use Rattle.link.proofs.PartTwo.Progress.{Schedule, Prog, host-a, host-b}
 use Rattle.link.proofs.PartTwo.Arrival.{sound-arrives}
 use Rattle.link.proofs.PartTwo.SlotProgress.{slot-progress}
@@ -136,31 +137,30 @@ module _ (D E k n₀ t₁ t₂ t₃ : ℕ) (m : Message) where
   }
 
   step-going : (d : Direction) (e : Event) (w : World) (n : ℕ) → Schedule n₀ (ahead d D E) (home d D E) t₁ t₂ t₃
-      → ruledStep e w ≡ true → unmarkedStep D E e w ≡ true → Going d w n → Going d (step D E e w) (isSlot e + n)
-  step-going aToB (slot ha hb) w n s r c g =
+      → unmarkedStep D E e w ≡ true → Going d w n → Going d (step D E e w) (isSlot e + n)
+  step-going aToB (slot ha hb) w n s c g =
       let q = and-both _ _ c in
       slot-on aToB g _ (slot-kept (g .cells .inv) ha hb)
       (slot-progress (g .cells .inv) (g .cells .level) s (g .prog) ha hb (q .0) (q .1))
-  step-going bToA (slot ha hb) w n s r c g =
+  step-going bToA (slot ha hb) w n s c g =
       let q = and-both _ _ c in
       slot-on bToA g _ (exchanged (slot-kept (exchanged (g .cells .inv)) ha hb))
       (slot-progress (g .cells .inv) (g .cells .level) s (g .prog) hb ha (q .1) (q .0))
-  step-going aToB (atA x) w n s r c g = goes-on aToB g _ (host-kept (g .cells .inv) x r) (host-a (g .prog) x)
-  step-going aToB (atB x) w n s r c g =
-      goes-on aToB g _ (exchanged (host-kept (exchanged (g .cells .inv)) x r)) (host-b (g .prog) x)
-  step-going bToA (atA x) w n s r c g =
-      goes-on bToA g _ (exchanged (host-kept (exchanged (g .cells .inv)) x r)) (host-b (g .prog) x)
-  step-going bToA (atB x) w n s r c g = goes-on bToA g _ (host-kept (g .cells .inv) x r) (host-a (g .prog) x)
+  step-going aToB (atA x) w n s c g = goes-on aToB g _ (host-kept (g .cells .inv) x) (host-a (g .prog) x)
+  step-going aToB (atB x) w n s c g =
+      goes-on aToB g _ (exchanged (host-kept (exchanged (g .cells .inv)) x)) (host-b (g .prog) x)
+  step-going bToA (atA x) w n s c g =
+      goes-on bToA g _ (exchanged (host-kept (exchanged (g .cells .inv)) x)) (host-b (g .prog) x)
+  step-going bToA (atB x) w n s c g = goes-on bToA g _ (host-kept (g .cells .inv) x) (host-a (g .prog) x)
 
   run-going : (d : Direction) → Schedule n₀ (ahead d D E) (home d D E) t₁ t₂ t₃ → (fs : List Event) (w : World) (n : ℕ)
-      → ruled D E fs w ≡ true → unmarked D E fs w ≡ true → Going d w n → Going d (run D E fs w) (slots fs + n)
-  unfolding run ruled unmarked slots
-  run-going d s [] w n r c g = subst (λ (i : ℕ). Going d w i) (sym (zero-add n)) g
-  run-going d s (e ∷ fs) w n r c g =
-      let p = and-both (ruledStep e w) (ruled D E fs (step D E e w)) r in
+      → unmarked D E fs w ≡ true → Going d w n → Going d (run D E fs w) (slots fs + n)
+  unfolding run unmarked slots
+  run-going d s [] w n c g = subst (λ (i : ℕ). Going d w i) (sym (zero-add n)) g
+  run-going d s (e ∷ fs) w n c g =
       let q = and-both (unmarkedStep D E e w) (unmarked D E fs (step D E e w)) c in
       subst (λ (i : ℕ). Going d (run D E fs (step D E e w)) i) (regroup (isSlot e) (slots fs) (slots-more e fs))
-      (run-going d s fs (step D E e w) (isSlot e + n) (p .1) (q .1) (step-going d e w n s (p .0) (q .0) g))
+      (run-going d s fs (step D E e w) (isSlot e + n) (q .1) (step-going d e w n s (q .0) g))
     where
       regroup : {l : ℕ} (i j : ℕ) → l ≡ i + j → j + (i + n) ≡ l + n
       regroup i j h = omega arith
@@ -168,12 +168,12 @@ module _ (D E k n₀ t₁ t₂ t₃ : ℕ) (m : Message) where
 begins : {a b : Side} {ca cb : List Cell} {D E pa pb t₁ t₂ t₃ : ℕ} → Inv a b ca cb D E pa pb
     → Schedule (length ca) D E t₁ t₂ t₃ → Idle a b → (v : ℕ) (h : v < 65536) → acceptsNow 2308 v (a .end) ≡ true
     → Prog (hosted (write 2308 v h) a) b ca cb D E pa (length (a .host .accepted)) (length ca) t₁ t₂ t₃ (length ca)
-    (messageOut (hosted (write 2308 v h) a .end))
+    (messageWritten v (a .host))
 begins {a} {b} i s idle v h q = record {
   acknowledged = le-of-eq (sym (idle .acknowledged));
-  accepted = rw q (omega (arith, length-more (a .host .accepted) (messageOut (hosted (write 2308 v h) a .end))));
+  accepted = rw q (omega (arith, length-more (a .host .accepted) (messageWritten v (a .host))));
   message = rw q (getD-append-seam (a .host .accepted) _ [] noMessage);
-  taken = all (acknowledged-entered i) (idle .acknowledged) (i .ab .filling .receiving .taken) (ap num (idle .empty));
+  left = all (acknowledged-entered i) (idle .acknowledged) (ap num (idle .empty));
   loaded = λ l. absurd (omega (arith, s .first));
   ranks = λ j l. absurd (omega (arith, s .first));
   abreast-b = λ l p. absurd (omega arith);
@@ -184,31 +184,31 @@ begins {a} {b} i s idle v h q = record {
   done = λ l. absurd (omega (arith, s .first, s .second, s .third));
 }
   where
-    all : {x y z t u : ℕ} → x ≤ z → x ≡ y → z ≡ t + u → u ≡ 0 → y ≤ t
-    all e f g h = omega arith
+    all : {x y z u : ℕ} → x ≤ z → x ≡ y → u ≡ 0 → y + u ≤ z
+    all e f g = omega arith
 
 begin-going : (d : Direction) {D E t₁ t₂ t₃ : ℕ} (w : World) (k : Seen d D E w)
     → Schedule (length (k .cn)) (ahead d D E) (home d D E) t₁ t₂ t₃ → Idle (near d w) (far d w)
     → (v : ℕ) (h : v < 65536) → acceptsNow 2308 v (near d w .end) ≡ true
     → (x : World) → x ≡ step D E (atNear d (write 2308 v h)) w
-    → Going D E (length (near d w .host .accepted)) (length (k .cn)) t₁ t₂ t₃ (messageOut (near d x .end)) d x
+    → Going D E (length (near d w .host .accepted)) (length (k .cn)) t₁ t₂ t₃ (messageWritten v (near d w .host)) d x
     (length (k .cn))
 begin-going d {D} {E} {t₁} {t₂} {t₃} w k s idle v h q x is =
     subst (λ (x : World). Going D E (length (near d w .host .accepted)) (length (k .cn)) t₁ t₂ t₃
-    (messageOut (near d x .end)) d x (length (k .cn))) (sym is) (go d k s idle q)
+    (messageWritten v (near d w .host)) d x (length (k .cn))) (sym is) (go d k s idle q)
   where
     go : (d : Direction) (k : Seen d D E w) → Schedule (length (k .cn)) (ahead d D E) (home d D E) t₁ t₂ t₃
         → Idle (near d w) (far d w) → acceptsNow 2308 v (near d w .end) ≡ true
         → Going D E (length (near d w .host .accepted)) (length (k .cn)) t₁ t₂ t₃
-        (messageOut (near d (step D E (atNear d (write 2308 v h)) w) .end)) d (step D E (atNear d (write 2308 v h)) w)
+        (messageWritten v (near d w .host)) d (step D E (atNear d (write 2308 v h)) w)
         (length (k .cn))
     go aToB k s idle q = record {
-      cells = with-inv aToB k _ (host-kept (k .inv) (write 2308 v h) refl);
+      cells = with-inv aToB k _ (host-kept (k .inv) (write 2308 v h));
       long = refl;
       prog = begins (k .inv) s idle v h q;
     }
     go bToA k s idle q = record {
-      cells = with-inv bToA k _ (host-kept (k .inv) (write 2308 v h) refl);
+      cells = with-inv bToA k _ (host-kept (k .inv) (write 2308 v h));
       long = refl;
       prog = begins (k .inv) s idle v h q;
     }
@@ -241,8 +241,8 @@ module _ (n D E : ℕ) where
       within a b c = omega arith
 
 lands : {a b : Side} {ca cb : List Cell} {D E pa pb k n₀ t₁ t₂ t₃ n : ℕ} {m : Message} → Inv a b ca cb D E pa pb
-    → Schedule n₀ D E t₁ t₂ t₃ → Prog a b ca cb D E pa k n₀ t₁ t₂ t₃ n m → t₃ < n → Landed k m a b
-lands {a} {b} {k = k} {m = m} i s g l = record {
+    → Schedule n₀ D E t₁ t₂ t₃ → Shows a → Prog a b ca cb D E pa k n₀ t₁ t₂ t₃ n m → t₃ < n → Landed k m a b
+lands {a} {b} {k = k} {m = m} i s h g l = record {
   entered = (
     take k (b .log .entered),
     drop (suc k) (b .log .entered),
@@ -251,8 +251,12 @@ lands {a} {b} {k = k} {m = m} i s g l = record {
     length-take-le k (b .log .entered) (omega (arith, in-there)),
   );
   acknowledged = g .done l;
+  shown = λ q. received-is i h ∙ lt-ltb _ _ (before q (g .done l));
 }
   where
+    before : {x y : ℕ} → x ≤ k → k < y → x < y
+    before e f = omega arith
+
     in-there : k < length (b .log .entered)
     in-there = g .entered (omega (arith, s .second, s .third))
 
@@ -268,13 +272,25 @@ bound-is aToB D E = refl
 bound-is bToA D E = omega arith
 
 pub delivered : Delivered
-delivered d D E es r w is idle v h q x step-is fs rule clean enough y y-is =
-    subst (λ (y : World). Landed (length (near d w .host .accepted)) (messageOut (near d x .end)) (near d y) (far d y))
+delivered d D E es w is idle v h q x step-is fs clean enough y y-is =
+    subst
+    (λ (y : World). Landed (length (near d w .host .accepted)) (messageWritten v (near d w .host)) (near d y) (far d y))
     (sym y-is)
-    (lands (g .cells .inv) s (g .prog) (late (in-time n (ahead d D E) (home d D E)) (bound-is d D E) enough (g .long)))
+    (lands (g .cells .inv) s (near-shows d (run D E fs x) shows) (g .prog)
+    (late (in-time n (ahead d D E) (home d D E)) (bound-is d D E) enough (g .long)))
   where
+    kept : Kept D E w
+    kept = subst (λ (w : World). Kept D E w) (sym is) (run-kept D E es resetWorld (reset-kept D E))
+
     k : Seen d D E w
-    k = seen d (subst (λ (w : World). Kept D E w) (sym is) (run-kept D E es resetWorld r (reset-kept D E)))
+    k = seen d kept
+
+    shows : BothShow (run D E fs x)
+    shows =
+        subst (λ (x : World). BothShow (run D E fs x)) (sym step-is)
+        (run-shows D E fs _ (step-kept D E (atNear d (write 2308 v h)) w kept)
+        (step-shows D E (atNear d (write 2308 v h)) w kept
+        (subst (λ (w : World). BothShow w) (sym is) (run-shows D E es resetWorld (reset-kept D E) reset-shows))))
 
     n : ℕ
     n = length (k .cn)
@@ -291,19 +307,20 @@ delivered d D E es r w is idle v h q x step-is fs rule clean enough y y-is =
     s : Schedule n (ahead d D E) (home d D E) t₁ t₂ t₃
     s = schedule n (ahead d D E) (home d D E)
 
-    g : Going D E (length (near d w .host .accepted)) n t₁ t₂ t₃ (messageOut (near d x .end)) d (run D E fs x)
+    g : Going D E (length (near d w .host .accepted)) n t₁ t₂ t₃ (messageWritten v (near d w .host)) d (run D E fs x)
         (slots fs + n)
     g =
-        run-going D E (length (near d w .host .accepted)) n t₁ t₂ t₃ (messageOut (near d x .end)) d s fs x n rule clean
+        run-going D E (length (near d w .host .accepted)) n t₁ t₂ t₃ (messageWritten v (near d w .host)) d s fs x n
+        clean
         (begin-going d w k s idle v h q x step-is)
 
     late : {t b c j : ℕ} → t < b + n → b ≡ c → c ≤ slots fs → slots fs + n ≡ j → t < j
     late a b c d = omega arith
 
-pub sound-unmarked : (D E : ℕ) (es : List Event) → ruled D E es resetWorld ≡ true
+pub sound-unmarked : (D E : ℕ) (es : List Event)
     → unmarkedStep D E (slot sound sound) (run D E es resetWorld) ≡ true
-sound-unmarked D E es r =
+sound-unmarked D E es =
     and-true _ _ (sound-arrives (exchanged (both-sent (k .inv)))) (sound-arrives (both-sent (k .inv)))
   where
     k : Kept D E (run D E es resetWorld)
-    k = run-kept D E es resetWorld r (reset-kept D E)
+    k = run-kept D E es resetWorld (reset-kept D E)

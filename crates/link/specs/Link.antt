@@ -1,33 +1,43 @@
 -- Two ends joined by two lines, each with its host. This page says what a run is; Demand.antt says what is demanded of
 -- every run. The delays are D slots from a to b and E slots from b to a.
---   Message       a number and eight bytes; messageOut, messageIn: in the transmit registers, in the receive register
---   Host          how far a host is in taking a message; its messages that were accepted, and those that it took
---   Log           what happens in an end, for the statements alone: messages loaded, acknowledged, entered
+--   Message       a number and eight bytes; messageIn: the one in the receive register
+--   Host          what a host did and was answered: the message bytes that it wrote, how far it is in taking a message,
+--                 its messages that were accepted, and those that it took
+--   Log           what happens in an end, for the statements alone: messages loaded, acknowledged, entered, and how
+--                 many were acknowledged when 3.2308 was last read
 --   Side, World   an end with all that it has sent (newest first), its host and its log; two of them
 --   resetSide, resetWorld   before anything is called or sent
+--   Direction     from a to b, or from b to a; near, far: the side that sends its messages, the side that takes them
 --   also b m l    the list l, with m behind it where b
---   Access, hosted   what a host may call between slots; a side after such a call
---   ruledCall     the rule for taking a message; Rule.antt shows that it is document 01's
---   bit15, receiveSide   of a value, of a register number
---   gathered, advance, accepting   what a host has after a receive-side read, and after a write
---   acceptsNow, acksNow, loadsNow, entersNow   a message is accepted, acknowledged, loaded, and enters
---   sends         a side after it has sent
---   Harm          what happens to a symbol on its way: nothing, or a mark, any value from 512 to 1,023
---   arriving, taking   what arrives, one symbol or none; a side after it has taken that
+--   Access, hosted   what a host may call between slots; a side after such a call; withHost, with another end and host
+--   ruledCall     the rule for taking a message; Rule.antt says it in document 01's words
+--   bit15, receiveSide, messageSide   of a value, of a register number
+--   halves v, bytesOf   the two bytes of a register's value, 7:0 first; those of several
+--   gathered, advance   what a host has after a receive-side read
+--   didRead, readLog   what a host has after a read; the log
+--   accepts, stores   a write that was answered 0, or not, accepts a message, stores message bytes
+--   messageWritten, wrote   the message that a write accepts; what a host has after a write
+--   answered0, acceptsNow   an end answers a write 0, and accepts a message by it
+--   acksNow, loadsNow, entersNow   a message is acknowledged, loaded, and enters
+--   sends         a side after it has sent; sentLog: its log
+--   Harm, harmed  what happens to a symbol on its way: nothing, or a mark, any value from 512 to 1,023; what arrives
+--                 then
+--   arriving, taking, entering   what arrives, one symbol or none; a side after it has taken that; its log
 --   Event, step, run   a slot, or one host's call; the world after it; after a list of events
---   ruled         every call of a run is by the rule
+--   ruled d       in a run every call of the host that takes the messages of direction d is by the rule; ruledStep:
+--                 in one event
 -- Assumes nothing.
-use Prim.Native.Nat.{ℕ, _+_, _/_, _%_, _≤_, _<_}
+use Prim.Native.Nat.{ℕ, _+_, _-_, _/_, _%_, _≤_, _<_}
 use mathlib.Core.Bool.{Bool, true, not, cond, _&&_, _||_}
 use mathlib.Core.List.{List, [], _∷_, _++_, map}
 use lib.Dec.{eqb, leb}
-use lib.ListN.{take, drop}
+use lib.ListN.{take, drop, set, replicate}
 use Rattle.answer.specs.Number.{numberOf}
 use Rattle.crc.specs.Bits.{odd}
 use Rattle.end.specs.declared.End.{End}
 use Rattle.end.specs.Good.{resetOf}
 use Rattle.end.specs.Sending.{acked, stepOne, loads, sendOf}
-use Rattle.receiver.specs.Receiving.{saidBy, placed, accepts, enters}
+use Rattle.receiver.specs.Receiving.{saidBy, placed, enters, accepts as acceptsFrame}
 use Rattle.end.specs.Taking.{settled, takeOf}
 use Rattle.end.specs.Registers.{readOf, writeOf, healthOf}
 
@@ -36,6 +46,8 @@ pub record Message : Type 0 where
   pub bytes : List ℕ
 
 pub record Host : Type 0 where
+  -- the last values written to 3.2309 to 3.2312 that were answered 0
+  pub written : List ℕ
   -- how many registers of a take it has read, and what they gave so far
   pub stage : ℕ
   pub soFar : Message
@@ -45,6 +57,7 @@ pub record Host : Type 0 where
 pub record Log : Type 0 where
   pub loadCount : ℕ
   pub ackCount : ℕ
+  pub seenCount : ℕ
   pub entered : List Message
 
 pub record Side : Type 0 where
@@ -61,15 +74,29 @@ abbrev pub resetSide : Side
 resetSide = record {
   end = resetOf;
   sent = [];
-  host = record { stage = 0; soFar = record { number = 0; bytes = [] }; accepted = []; taken = [] };
-  log = record { loadCount = 0; ackCount = 0; entered = [] };
+  host = record {
+    written = replicate 4 0;
+    stage = 0;
+    soFar = record { number = 0; bytes = [] };
+    accepted = [];
+    taken = [];
+  };
+  log = record { loadCount = 0; ackCount = 0; seenCount = 0; entered = [] };
 }
 
 abbrev pub resetWorld : World
 resetWorld = record { a = resetSide; b = resetSide }
 
-abbrev pub messageOut : End → Message
-messageOut e = record { number = e .outbox .number; bytes = e .outbox .bytes }
+pub data Direction : Type 0 where
+  aToB bToA : Direction
+
+abbrev pub near : Direction → World → Side
+near aToB w = w .a
+near bToA w = w .b
+
+abbrev pub far : Direction → World → Side
+far aToB w = w .b
+far bToA w = w .a
 
 abbrev pub messageIn : End → Message
 messageIn e = record { number = e .inbox .number; bytes = e .inbox .bytes }
@@ -91,46 +118,95 @@ bit15 v = odd (v / 32768)
 abbrev pub receiveSide : ℕ → Bool
 receiveSide r = leb 2313 r && leb r 2317
 
--- at stage n of a take a host reads 3.2313 + n next of its receive-side registers; all other calls are free
+abbrev pub messageSide : ℕ → Bool
+messageSide r = leb 2309 r && leb r 2312
+
+-- at stage n of a take a host reads 3.2313 + n next of its receive-side registers, or 3.2313, which begins anew; all
+-- other calls are free
 abbrev pub ruledCall : Access → Host → Bool
-ruledCall (read r) h = not (receiveSide r) || eqb r (2313 + h .stage)
+ruledCall (read r) h = not (receiveSide r) || (eqb r 2313 || eqb r (2313 + h .stage))
 ruledCall (write r v l) h = true
 ruledCall (health k) h = true
 ruledCall present h = true
+
+abbrev pub halves : ℕ → List ℕ
+halves v = v % 256 ∷ v / 256 ∷ []
+
+unfoldable pub bytesOf : List ℕ → List ℕ
+bytesOf [] = []
+bytesOf (v ∷ l) = halves v ++ bytesOf l
 
 -- register r gave the value v: 3.2313 the number, each of the others two bytes
 abbrev pub gathered : ℕ → ℕ → Message → Message
 gathered r v m = record {
   number = cond (eqb r 2313) (v / 256 % 16) (m .number);
-  bytes = cond (eqb r 2313) [] (m .bytes ++ (v % 256 ∷ v / 256 ∷ []));
+  bytes = cond (eqb r 2313) [] (m .bytes ++ halves v);
 }
 
 -- 3.2313 begins a take where bit 15 is set, 3.2317 completes it
 abbrev pub advance : ℕ → ℕ → Host → Host
 advance r v h = record {
+  written = h .written;
   stage = cond (eqb r 2313) (cond (bit15 v) 1 0) (cond (eqb r 2317) 0 (h .stage + 1));
   soFar = gathered r v (h .soFar);
   accepted = h .accepted;
   taken = also (eqb r 2317) (gathered r v (h .soFar)) (h .taken);
 }
 
--- a write to 3.2308 with bit 15, answered 0, accepts the message then standing in the transmit registers
-abbrev pub acceptsNow : ℕ → ℕ → End → Bool
-acceptsNow r v e = eqb r 2308 && (bit15 v && eqb (numberOf (writeOf e r v .answer)) 0)
+-- register r gave the value v; a register that is not there gives none, and is not of the receive side
+abbrev pub didRead : ℕ → ℕ → Host → Host
+didRead r v h = cond (receiveSide r) (advance r v h) h
 
-abbrev pub accepting : Bool → Message → Host → Host
-accepting b m h = record { stage = h .stage; soFar = h .soFar; accepted = also b m (h .accepted); taken = h .taken }
+-- reading 3.2308 shows what was acknowledged by then
+abbrev pub readLog : ℕ → Log → Log
+readLog r g = record {
+  loadCount = g .loadCount;
+  ackCount = g .ackCount;
+  seenCount = cond (eqb r 2308) (g .ackCount) (g .seenCount);
+  entered = g .entered;
+}
+
+-- a write of v to 3.2308 with bit 15, answered 0 (done), accepts a message
+abbrev pub accepts : ℕ → ℕ → Bool → Bool
+accepts r v done = eqb r 2308 && (bit15 v && done)
+
+abbrev pub stores : ℕ → Bool → Bool
+stores r done = messageSide r && done
+
+-- its number is bits 11:8 of the value, its bytes are those last written
+abbrev pub messageWritten : ℕ → Host → Message
+messageWritten v h = record { number = v / 256 % 16; bytes = bytesOf (h .written) }
+
+-- v was written to register r: it accepts a message where a, and stores message bytes where s
+abbrev pub wrote : Bool → Bool → ℕ → ℕ → Host → Host
+wrote a s r v h = record {
+  written = cond s (set (h .written) (r - 2309) v) (h .written);
+  stage = h .stage;
+  soFar = h .soFar;
+  accepted = also a (messageWritten v h) (h .accepted);
+  taken = h .taken;
+}
+
+-- what the end e answers
+abbrev pub answered0 : ℕ → ℕ → End → Bool
+answered0 r v e = eqb (numberOf (writeOf e r v .answer)) 0
+
+abbrev pub acceptsNow : ℕ → ℕ → End → Bool
+acceptsNow r v e = accepts r v (answered0 r v e)
 
 abbrev pub withHost : Side → End → Host → Side
 withHost s e h = record { end = e; sent = s .sent; host = h; log = s .log }
 
 abbrev pub hosted : Access → Side → Side
-hosted (read r) s =
-    withHost s (readOf (s .end) r .end)
-    (cond (receiveSide r) (advance r (readOf (s .end) r .value) (s .host)) (s .host))
+hosted (read r) s = record {
+  end = readOf (s .end) r .end;
+  sent = s .sent;
+  host = didRead r (readOf (s .end) r .value) (s .host);
+  log = readLog r (s .log);
+}
 hosted (write r v l) s =
     withHost s (writeOf (s .end) r v .end)
-    (accepting (acceptsNow r v (s .end)) (messageOut (writeOf (s .end) r v .end)) (s .host))
+    (wrote (acceptsNow r v (s .end)) (stores r (answered0 r v (s .end))) r v (s .host))
 hosted (health k) s = withHost s (healthOf (s .end) k .end) (s .host)
 hosted present s = s
 
@@ -143,16 +219,21 @@ acksNow e = eqb (e .sender .position) 0 && acked e
 abbrev pub loadsNow : End → Bool
 loadsNow e = eqb (e .sender .position) 0 && loads (stepOne (acked e) e)
 
+-- the log when the end e sends
+abbrev pub sentLog : End → Log → Log
+sentLog e g = record {
+  loadCount = cond (loadsNow e) (g .loadCount + 1) (g .loadCount);
+  ackCount = cond (acksNow e) (g .ackCount + 1) (g .ackCount);
+  seenCount = g .seenCount;
+  entered = g .entered;
+}
+
 abbrev pub sends : Side → Side
 sends s = record {
   end = sendOf (s .end) .end;
   sent = sendOf (s .end) .symbol ∷ s .sent;
   host = s .host;
-  log = record {
-    loadCount = cond (loadsNow (s .end)) (s .log .loadCount + 1) (s .log .loadCount);
-    ackCount = cond (acksNow (s .end)) (s .log .ackCount + 1) (s .log .ackCount);
-    entered = s .log .entered;
-  };
+  log = sentLog (s .end) (s .log);
 }
 
 pub data Harm : Type 0 where
@@ -169,10 +250,15 @@ arriving d h sent = map (harmed h) (take 1 (drop d sent))
 
 -- the symbol y brings a message into the receive register
 abbrev pub entersNow : ℕ → End → Bool
-entersNow y e = enters (accepts y (e .collector)) (saidBy (placed y (e .collector))) (settled e)
+entersNow y e = enters (acceptsFrame y (e .collector)) (saidBy (placed y (e .collector))) (settled e)
 
 abbrev pub entering : Bool → Message → Log → Log
-entering b m g = record { loadCount = g .loadCount; ackCount = g .ackCount; entered = also b m (g .entered) }
+entering b m g = record {
+  loadCount = g .loadCount;
+  ackCount = g .ackCount;
+  seenCount = g .seenCount;
+  entered = also b m (g .entered);
+}
 
 unfoldable pub taking : List ℕ → Side → Side
 taking [] s = s
@@ -202,11 +288,13 @@ unfoldable pub run : ℕ → ℕ → List Event → World → World
 run D E [] w = w
 run D E (e ∷ es) w = run D E es (step D E e w)
 
-abbrev pub ruledStep : Event → World → Bool
-ruledStep (slot ha hb) w = true
-ruledStep (atA c) w = ruledCall c (w .a .host)
-ruledStep (atB c) w = ruledCall c (w .b .host)
+abbrev pub ruledStep : Direction → Event → World → Bool
+ruledStep d (slot ha hb) w = true
+ruledStep aToB (atA c) w = true
+ruledStep aToB (atB c) w = ruledCall c (w .b .host)
+ruledStep bToA (atA c) w = ruledCall c (w .a .host)
+ruledStep bToA (atB c) w = true
 
-unfoldable pub ruled : ℕ → ℕ → List Event → World → Bool
-ruled D E [] w = true
-ruled D E (e ∷ es) w = ruledStep e w && ruled D E es (step D E e w)
+unfoldable pub ruled : Direction → ℕ → ℕ → List Event → World → Bool
+ruled d D E [] w = true
+ruled d D E (e ∷ es) w = ruledStep d e w && ruled d D E es (step D E e w)

@@ -1,7 +1,7 @@
 -- What else is true after every run, beside demand 3: the log is the ends' own account. So what the statements read in
 -- it can be seen in the registers and the frames.
---   LogFacts    of what one side logs, and the other
---   LogsTrue    they hold after every run by the rule, both ways
+--   LogFacts, LogsTrue   of what one side logs, and the other; after every run, both ways, whatever the hosts do
+--   EnteredIs            by the rule, what entered is what was taken and what stands in the register
 -- Assumes nothing.
 use Prim.Native.Nat.{_+_, _≤_}
 use mathlib.Core.Bool.{cond}
@@ -9,11 +9,9 @@ use mathlib.Core.List.{_++_}
 use mathlib.Core.Path.{_≡_}
 use lib.ListN.{length}
 use Rattle.link.specs.Link.{Side}
-use Rattle.link.specs.Demand.{pendingIn, registerHolds, Always}
+use Rattle.link.specs.Demand.{pendingIn, registerHolds, ByRule, Always}
 
 pub record LogFacts (near far : Side) : Type 0 where
-  -- what entered is what was taken and what stands in the register
-  pub entered : far .log .entered ≡ far .host .taken ++ registerHolds far
   -- no more are acknowledged than entered
   pub acknowledged : near .log .ackCount ≤ length (far .log .entered)
   -- all but a pending one were loaded
@@ -23,3 +21,6 @@ pub record LogFacts (near far : Side) : Type 0 where
 
 abbrev pub LogsTrue : Type 0
 LogsTrue = Always LogFacts
+
+abbrev pub EnteredIs : Type 0
+EnteredIs = ByRule (λ near far. far .log .entered ≡ far .host .taken ++ registerHolds far)

@@ -16,7 +16,7 @@ use mathlib.Core.List.{List, [], _∷_, _++_}
 use mathlib.Core.Path.{_≡_}
 use native.Mathlib.Omega.{arith}
 use lib.ListN.{length, replicate}
-use Rattle.link.specs.Link.{World, resetWorld, write, acceptsNow, sound, Event, slot, atA, step, run, ruled}
+use Rattle.link.specs.Link.{World, resetWorld, write, acceptsNow, sound, Event, slot, atA, step, run}
 use Rattle.link.specs.Demand.{held, mostHeld, Idle, unmarked, slots, bound, DeliveredIn}
 
 abbrev pub quiet : ℕ → List Event
@@ -43,10 +43,8 @@ unfoldable pub late : World
 late = run 1 1 (quiet (short 1 1)) asked
 
 pub record TooSoon : Type 0 where
-  pub by-rule : ruled 1 1 (quiet 1) resetWorld ≡ true
   pub idle : Idle (oneSlot .a) (oneSlot .b)
   pub accepted : acceptsNow 2308 0x8000 (oneSlot .a .end) ≡ true
-  pub still-by-rule : ruled 1 1 (quiet (short 1 1)) asked ≡ true
   pub none-marked : unmarked 1 1 (quiet (short 1 1)) asked ≡ true
   pub slots-are : slots (quiet (short 1 1)) ≡ short 1 1
   pub not-yet : late .a .log .ackCount ≡ 0

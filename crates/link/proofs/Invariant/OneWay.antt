@@ -4,7 +4,6 @@
 --                         is set, that message
 --   Acknowledges, AckOk   what a frame of far acknowledges, made when ent had entered
 --   Holding       the sending half of near, what is pending and what is in the sender: HoldingBy, of its parts
---   TakeOk        a take that is half done has read a part of what is in the register
 --   messageAt     the message that stands in a receive register
 --   Filling       the receiving half of far; the frame that it heard last was made when ha were acknowledged
 --   Onward, Back  the frames on the two lines; those older than D, E slots have arrived
@@ -28,8 +27,8 @@ use Rattle.end.specs.Sending.{oldValid}
 use Rattle.receiver.specs.Receiving.{saidBy}
 use Rattle.protocol.specs.Steps.{num, Out}
 use Rattle.protocol.proofs.Keeps.{Sending, Hearing, Receiving}
-use Rattle.link.specs.Link.{Message, Side, messageOut}
-use Rattle.link.specs.Demand.{messageSent}
+use Rattle.link.specs.Link.{Message, Side}
+use Rattle.link.specs.Demand.{messageOut, messageSent}
 use Rattle.link.proofs.Line.Words.{messageIs}
 use Rattle.link.proofs.Line.{Frame, Cell, frameAt, rank, Line}
 use Rattle.link.proofs.Invariant.Views.{outOf, inOf}
@@ -63,23 +62,15 @@ pub record HoldingBy (o : Out) (v : Bool) (out in-frame : Message) (acc : List M
 abbrev pub Holding : End → List Message → ℕ → ℕ → Type 0
 Holding e acc ld ackd = HoldingBy (outOf e) (oldValid e) (messageOut e) (messageSent e) acc ld ackd
 
--- n registers were read, which gave p; f says that the register is full, and m stands in it
-pub record TakeOk (n : ℕ) (p : Message) (f : Bool) (m : Message) : Type 0 where
-  pub within : n ≤ 4
-  pub full : 0 < n → f ≡ true
-  pub number : 0 < n → p .number ≡ m .number
-  pub bytes : 0 < n → p .bytes ≡ take (2 * (n - 1)) (m .bytes)
-
 abbrev pub messageAt : Inbox → Message
 messageAt i = record { number = i .number; bytes = i .bytes }
 
--- the host has read n registers, which gave p; ent entered, and tk were taken
-pub record Filling (h : Heard) (i : Inbox) (n : ℕ) (p : Message) (acc ent tk : List Message) (ha : ℕ) : Type 0 where
-  pub receiving : Receiving (length ent) (length tk) ha (h .valid) (h .toggle) (inOf i)
-  pub register : i .full ≡ true → getD acc (length tk) noMessage ≡ messageAt i
-  pub reading : TakeOk n p (i .full) (messageAt i)
+-- ent entered, of which `gone` have left the register
+pub record Filling (h : Heard) (i : Inbox) (acc ent : List Message) (ha : ℕ) : Type 0 where
+  pub gone : ℕ
+  pub receiving : Receiving (length ent) gone ha (h .valid) (h .toggle) (inOf i)
+  pub register : i .full ≡ true → getD acc gone noMessage ≡ messageAt i
   pub entered-is : ent ≡ take (length ent) acc
-  pub taken-is : tk ≡ take (length tk) acc
 
 pub record Onward (cn : List Cell) (D : ℕ) (acc : List Message) (ackd ld ha : ℕ) (valid : Bool) : Type 0 where
   pub newest : rank (frameAt cn 0) ≡ ackd + ld
@@ -94,8 +85,7 @@ pub record Back (cf : List Cell) (E ackd ent he : ℕ) : Type 0 where
 pub record Way (near far : Side) (cn cf : List Cell) (D E he : ℕ) : Type 0 where
   pub ha : ℕ
   pub holding : Holding (near .end) (near .host .accepted) (near .log .loadCount) (near .log .ackCount)
-  pub filling : Filling (far .end .heard) (far .end .inbox) (far .host .stage) (far .host .soFar) (near .host .accepted)
-      (far .log .entered) (far .host .taken) ha
+  pub filling : Filling (far .end .heard) (far .end .inbox) (near .host .accepted) (far .log .entered) ha
   pub hearing : Hearing (near .log .ackCount) he (near .end .heard .ack) (near .end .heard .togack)
   pub order : length (far .log .entered) ≤ near .log .loadCount
   pub onward : Onward cn D (near .host .accepted) (near .log .ackCount) (near .log .loadCount) ha

@@ -50,7 +50,8 @@ stepThree-view a l e = refl
 pub releases-view : (e : End) → releases (e .heard) (e .inbox) ≡ steps.releases (e .heard .valid) (inOf (e .inbox))
 releases-view e = refl
 
-pub settle-view : (e : End) → inOf (settled e) ≡ steps.settle (releases (e .heard) (e .inbox)) (e .heard .toggle) (inOf (e .inbox))
+pub settle-view : (e : End)
+    → inOf (settled e) ≡ steps.settle (releases (e .heard) (e .inbox)) (e .heard .toggle) (inOf (e .inbox))
 settle-view e = refl
 
 pub placed-view : (s : ℕ) (c : Collector) → placed s c ≡ steps.placed (marked s) (even s) s (c .symbols) (c .count)

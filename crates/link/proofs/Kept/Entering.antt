@@ -3,9 +3,9 @@
 --   heard-filling     an accepted frame is heard, and its message enters where it is the next one
 -- Assumes nothing.
 use Prim.Native.Nat.{ℕ, _+_, _*_, _≤_, _<_}
-use mathlib.Core.Bool.{Bool, true, false, not, _&&_, Bool·beq, false≢true}
+use mathlib.Core.Bool.{Bool, true, false}
 use mathlib.Core.List.{List}
-use mathlib.Core.Path.{_≡_, refl, sym, ap, _∙_, subst}
+use mathlib.Core.Path.{_≡_, sym, ap, _∙_, subst}
 use native.Mathlib.Nat.{add-zero}
 use lib.ListN.{length, getD, length-append}
 use Rattle.end.specs.declared.End.{End}
@@ -21,47 +21,40 @@ use Rattle.link.proofs.Invariant.Views.{inOf}
 use Rattle.link.proofs.Invariant.Logs.{part-more}
 use Rattle.link.proofs.Invariant.OneWay.{noMessage, Carries, messageAt, Filling}
 
-pub settled-filling : (e : End) {n ha : ℕ} {p : Message} {acc ent tk : List Message} → ha ≤ length ent
-    → Filling (e .heard) (e .inbox) n p acc ent tk ha → Filling (e .heard) (settled e) n p acc ent tk ha
+pub settled-filling : (e : End) {ha : ℕ} {acc ent : List Message} → ha ≤ length ent
+    → Filling (e .heard) (e .inbox) acc ent ha → Filling (e .heard) (settled e) acc ent ha
 settled-filling e h f = record {
+  gone = f .gone;
   receiving = settle-receiving h (f .receiving);
   register = f .register;
-  reading = f .reading;
   entered-is = f .entered-is;
-  taken-is = f .taken-is;
 }
 
 -- the twelve symbols l of a frame that was made when ackd were acknowledged
-module _ {h : Heard} {i : Inbox} {n ha : ℕ} {p : Message} {acc ent tk : List Message}
-    (f : Filling h i n p acc ent tk ha) (l : List ℕ) (ackd : ℕ) (carries : Carries acc l ackd)
+module _ {h : Heard} {i : Inbox} {ha : ℕ} {acc ent : List Message}
+    (f : Filling h i acc ent ha) (l : List ℕ) (ackd : ℕ) (carries : Carries acc l ackd)
     (upto : ackd ≤ length ent) (newer : 2 * ha + num (h .valid) ≤ 2 * ackd + num (saidBy l .valid)) where
-  next : enters true (saidBy l) i ≡ true → (ackd ≡ length ent) × (length tk ≡ length ent) × (saidBy l .valid ≡ true)
+  next : enters true (saidBy l) i ≡ true → (ackd ≡ length ent) × (f .gone ≡ length ent) × (saidBy l .valid ≡ true)
   next =
       enters-next ackd upto (saidBy l .valid) (saidBy l .toggle) (inOf i) (carries .toggle) newer (f .receiving)
 
   received : (b : Bool) → enters true (saidBy l) i ≡ b
-      → Receiving (length ent + num b) (length tk) ackd (saidBy l .valid) (saidBy l .toggle) (inOf (entered b l i))
+      → Receiving (length ent + num b) (f .gone) ackd (saidBy l .valid) (saidBy l .toggle) (inOf (entered b l i))
   received b e =
-      subst (λ (b : Bool). Receiving (length ent + num b) (length tk) ackd (saidBy l .valid) (saidBy l .toggle)
+      subst (λ (b : Bool). Receiving (length ent + num b) (f .gone) ackd (saidBy l .valid) (saidBy l .toggle)
       (inOf (entered b l i))) e
       (enter-receiving ackd upto (saidBy l .valid) (saidBy l .toggle) (inOf i) (carries .toggle) newer (f .receiving))
 
   pub heard-filling : (b : Bool) → enters true (saidBy l) i ≡ b
-      → Filling (saidBy l) (entered b l i) n p acc (also b (messageAt (entered b l i)) ent) tk ackd
+      → Filling (saidBy l) (entered b l i) acc (also b (messageAt (entered b l i)) ent) ackd
   heard-filling true e = record {
+    gone = f .gone;
     receiving = rw length-append (received true e);
     register = λ q. ap (λ (n : ℕ). getD acc n noMessage) (next e .1) ∙ message;
-    reading = record {
-      within = f .reading .within;
-      full = λ q. refl;
-      number = λ q. absurd (no-take q);
-      bytes = λ q. absurd (no-take q);
-    };
     entered-is =
         part-more noMessage acc ent (messageIs l) (f .entered-is)
         (subst (λ (n : ℕ). n < length acc) (next e .0) (there .0))
         message;
-    taken-is = f .taken-is;
   }
     where
       there : (ackd < length acc) × (getD acc ackd noMessage ≡ messageIs l)
@@ -69,19 +62,9 @@ module _ {h : Heard} {i : Inbox} {n ha : ℕ} {p : Message} {acc ent tk : List M
 
       message : getD acc (length ent) noMessage ≡ messageIs l
       message = ap (λ (n : ℕ). getD acc n noMessage) (sym (next e .0)) ∙ there .1
-
-      -- the register was empty, so no take had begun
-      no-take : 0 < n → ⊥
-      no-take q = full-not (i .full) (f .reading .full q) e
-        where
-          full-not : (b : Bool) → b ≡ true
-              → (not b && (saidBy l .valid && Bool·beq (saidBy l .toggle) (i .expected))) ≡ true → ⊥
-          full-not true q r = false≢true r
-          full-not false q r = false≢true q
   heard-filling false e = record {
+    gone = f .gone;
     receiving = rw add-zero at (received false e);
     register = f .register;
-    reading = f .reading;
     entered-is = f .entered-is;
-    taken-is = f .taken-is;
   }

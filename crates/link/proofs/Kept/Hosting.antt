@@ -1,6 +1,6 @@
 -- A host's call: the parts of an end that a line can see stay, so the invariant needs only the two halves anew.
 --   endAs       an end with another health to send and other registers
---   hosted-as   the invariant of a side with such an end and any host, from its two halves
+--   sideAs, hosted-as   a side with such an end and any host; its invariant, from its two halves
 --   grown-carries, grown-filling   one accepted message more leaves what is known of the older ones
 -- Assumes nothing.
 use Prim.Native.Nat.{ℕ, _+_, _≤_, _<_}
@@ -16,10 +16,11 @@ use Rattle.end.specs.declared.Outbox.{Outbox}
 use Rattle.end.specs.Good.{bad}
 use Rattle.end.specs.Shape.{Shaped}
 use Rattle.protocol.specs.Steps.{num}
-use Rattle.link.specs.Link.{Message, Host, Side, withHost}
+use Rattle.link.specs.Link.{Message, Host, Side}
 use Rattle.link.proofs.Line.{Cell, frameAt}
 use Rattle.link.proofs.Invariant.Logs.{length-more, part-grows}
 use Rattle.link.proofs.Invariant.OneWay.{noMessage, Carries, DataOk, Holding, Filling}
+use Rattle.link.proofs.Invariant.Written.{Stored}
 use Rattle.link.proofs.Invariant.{Inv}
 
 abbrev pub endAs : End → ℕ → Outbox → Inbox → End
@@ -40,21 +41,36 @@ endAs e k o i = record {
   presence = e .presence;
 }
 
+-- a side after a host's call: of the log only what was seen of acknowledgements may change
+abbrev pub sideAs : Side → End → Host → ℕ → Side
+sideAs a e h n = record {
+  end = e;
+  sent = a .sent;
+  host = h;
+  log = record {
+    loadCount = a .log .loadCount;
+    ackCount = a .log .ackCount;
+    seenCount = n;
+    entered = a .log .entered;
+  };
+}
+
 module _ {a b : Side} {ca cb : List Cell} {D E pa pb : ℕ} (v : Inv a b ca cb D E pa pb) (k : ℕ) (o : Outbox) (i : Inbox)
-    (h : Host) where
+    (h : Host) (n : ℕ) where
   pub hosted-as : bad (endAs (a .end) k o i) ≡ false → Shaped (endAs (a .end) k o i)
+      → Stored (h .written) (o .bytes)
       → Holding (endAs (a .end) k o i) (h .accepted) (a .log .loadCount) (a .log .ackCount)
-      → Filling (a .end .heard) i (h .stage) (h .soFar) (b .host .accepted) (a .log .entered) (h .taken) (v .ba .ha)
-      → Filling (b .end .heard) (b .end .inbox) (b .host .stage) (b .host .soFar) (h .accepted) (b .log .entered)
-      (b .host .taken) (v .ab .ha)
-      → ((j : ℕ) → DataOk (h .accepted) (frameAt ca j)) → Inv (withHost a (endAs (a .end) k o i) h) b ca cb D E pa pb
-  hosted-as good shaped holding filling far frames = record {
+      → Filling (a .end .heard) i (b .host .accepted) (a .log .entered) (v .ba .ha)
+      → Filling (b .end .heard) (b .end .inbox) (h .accepted) (b .log .entered) (v .ab .ha)
+      → ((j : ℕ) → DataOk (h .accepted) (frameAt ca j)) → Inv (sideAs a (endAs (a .end) k o i) h n) b ca cb D E pa pb
+  hosted-as good shaped stored holding filling far frames = record {
     fit-a = record {
       good = good;
       shaped = shaped;
       sender = v .fit-a .sender;
       line = v .fit-a .line;
       sync = v .fit-a .sync;
+      stored = stored;
     };
     fit-b = v .fit-b;
     ab = record {
@@ -87,16 +103,15 @@ module _ (acc : List Message) (m : Message) where
     message = λ q. let t = c .message q in (omega (arith, length-more acc m, t .0), at-grown n (t .0) ∙ t .1);
   }
 
-  pub grown-filling : {h : Heard} {i : Inbox} {n ha : ℕ} {p : Message} {ent tk : List Message} → length ent ≤ length acc
-      → Filling h i n p acc ent tk ha → Filling h i n p (acc ++ (m ∷ [])) ent tk ha
-  grown-filling {i = i} {ent = ent} {tk = tk} o f = record {
+  pub grown-filling : {h : Heard} {i : Inbox} {ha : ℕ} {ent : List Message} → length ent ≤ length acc
+      → Filling h i acc ent ha → Filling h i (acc ++ (m ∷ [])) ent ha
+  grown-filling {i = i} {ent = ent} o f = record {
+    gone = f .gone;
     receiving = f .receiving;
-    register = λ q. at-grown (length tk) (below (i .full) q (f .receiving .taken)) ∙ f .register q;
-    reading = f .reading;
+    register = λ q. at-grown (f .gone) (below (i .full) q (f .receiving .taken)) ∙ f .register q;
     entered-is = part-grows acc ent m o (f .entered-is);
-    taken-is = part-grows acc tk m (omega (arith, f .receiving .taken)) (f .taken-is);
   }
     where
-      below : (b : Bool) → b ≡ true → length ent ≡ length tk + num b → length tk < length acc
+      below : (b : Bool) → b ≡ true → length ent ≡ f .gone + num b → f .gone < length acc
       below true q e = omega arith
       below false q e = absurd (false≢true q)

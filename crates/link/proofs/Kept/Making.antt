@@ -27,8 +27,8 @@ use Rattle.endlaws.proofs.Goods.{good}
 use Rattle.protocol.specs.Steps.{num}
 use Rattle.protocol.proofs.Keeps.{Sending, Hearing, Receiving, acks-heard, stepOne-sending, stepThree-sending}
 use Rattle.protocol.proofs.Keeps.{valid-sent, valid-counts, sent-below, acknowledge-made}
-use Rattle.link.specs.Link.{Message, messageOut}
-use Rattle.link.specs.Demand.{messageSent}
+use Rattle.link.specs.Link.{Message}
+use Rattle.link.specs.Demand.{messageOut, messageSent}
 use Rattle.link.proofs.Line.Words.{said, messageIs, Says, word-says, bytes-built}
 use Rattle.link.proofs.Line.{Frame, rank}
 use Rattle.link.proofs.Line.Sent.{tenOf}

@@ -65,6 +65,7 @@ module _ {a b : Side} {ca cb : List Cell} {D E pa pb : ℕ} (v : Inv a b ca cb D
             line-push (v .fit-a .line) c (v .fit-a .sender .position) (v .fit-a .line .ten 0) (λ h. refl) (le-refl _)
             (le-refl _);
         sync = v .fit-a .sync;
+        stored = v .fit-a .stored;
       };
       fit-b = v .fit-b;
       ab = record {
@@ -152,6 +153,7 @@ module _ {a b : Side} {ca cb : List Cell} {D E pa pb : ℕ} (v : Inv a b ca cb D
             line-push (v .fit-a .line) n (sym at-zero ∙ v .fit-a .sender .position)
             (made-long makes) (λ h. absurd (lt-irrefl 0 h)) rank-grows (v .ba .back .newest);
         sync = v .fit-a .sync;
+        stored = v .fit-a .stored;
       };
       fit-b = v .fit-b;
       ab = record {

@@ -2,14 +2,15 @@
 --   frameArrives   what arrives makes a frame accepted
 --   hears          how many had entered when the frame was made that is heard last, after what arrives
 --   harm-joins     what arrives of a cell is a symbol, and joins the collection
---   arrive-kept    what arrives at one side, marked or not, or nothing
+--   arrive-kept, arrive-case   what arrives at one side, marked or not, or nothing
+--   taking-host    taking leaves the host
 --   cellOf         the cell that a side sends in a slot
 --   both-sent, slot-kept   after both have sent; after the slot
 -- Assumes nothing.
 use Prim.Native.Nat.{ℕ, suc, _≤_, _<_}
 use mathlib.Core.Bool.{Bool, true, false, cond}
 use mathlib.Core.List.{List, [], _∷_}
-use mathlib.Core.Path.{_≡_, refl, sym, _∙_, subst}
+use mathlib.Core.Path.{_≡_, refl, sym, ap, _∙_, subst}
 use native.Mathlib.Omega.{arith}
 use lib.Dec.{eqb, ltb}
 use lib.ListN.{length, List·getD-eq-default}
@@ -17,12 +18,13 @@ use borrow.Author.Tests.{ltb-true, ltb-false, le-leb}
 use Rattle.frame.proofs.FrameLaws.{build-below}
 use Rattle.receiver.specs.declared.Collector.{Collector}
 use Rattle.end.specs.Good.{bad}
-use Rattle.receiver.specs.Receiving.{accepts}
+use Rattle.receiver.specs.Receiving.{placed, saidBy, accepts, enters}
+use Rattle.end.specs.Taking.{settled}
 use Rattle.end.specs.Calls.{Call}
 use Rattle.end.specs.Shape.{Shaped}
 use Rattle.endlaws.proofs.Shapes.{after-shaped}
 use Rattle.endlaws.proofs.Goods.{good, after-good}
-use Rattle.link.specs.Link.{Side, sends, Harm, sound, mark, harmed, arriving, taking}
+use Rattle.link.specs.Link.{Side, sends, Harm, sound, mark, harmed, arriving, entersNow, taking}
 use Rattle.link.proofs.Line.{Cell, silentCell, cellAt, frameAt, symbolIn}
 use Rattle.link.proofs.Line.Sent.{cellSent}
 use Rattle.link.proofs.Line.Arriving.{arriving-some, arriving-none}
@@ -30,7 +32,7 @@ use Rattle.link.proofs.Line.Collecting.{Joins, line-next, sound-joins, 
 use Rattle.link.proofs.Invariant.OneWay.{onward-older, back-older}
 use Rattle.link.proofs.Invariant.{Fit, Inv, exchanged}
 use Rattle.link.proofs.Kept.Sending.{sent-kept}
-use Rattle.link.proofs.Kept.Taking.{takingAs, taking-as, taking-kept}
+use Rattle.link.proofs.Kept.Taking.{takingAs, taking-as, takingBy, by-as, taking-kept}
 
 abbrev pub frameArrives : List ℕ → Collector → Bool
 frameArrives [] c = false
@@ -104,10 +106,38 @@ module _ {a b : Side} {ca cb : List Cell} {D E pa pb : ℕ} (v : Inv a b ca cb (
           let p = ltb-false D (length ca) t in
           subst (λ (l : List ℕ). HasArrived l) (sym (arriving-none (v .fit-a .sender) h D p)) (none-kept p)
 
+  -- what is true of b, and of b after any symbol, is true of it after what arrives
+  pub arrive-case : (P : Side → Type 0) → P b
+      → ((s : ℕ) (t n : Bool) → enters t (saidBy (placed s (b .end .collector))) (settled (b .end)) ≡ n
+      → P (takingBy t n s b))
+      → (h : Harm) → P (taking (arriving D h (a .sent)) b)
+  unfolding taking
+  arrive-case P p f h = go (ltb D (length ca)) refl
+    where
+      y : ℕ
+      y = harmed h (symbolIn (cellAt ca D))
+
+      go : (t : Bool) → ltb D (length ca) ≡ t → P (taking (arriving D h (a .sent)) b)
+      go true t =
+          let q = ltb-true D (length ca) t in
+          subst P
+          (sym (ap (λ (l : List ℕ). taking l b) (arriving-some (v .fit-a .sender) h D q)
+          ∙ taking-as y b (v .fit-b .good) (harm-joins q h .0)
+          ∙ by-as y b))
+          (f y (accepts y (b .end .collector)) (entersNow y (b .end)) refl)
+      go false t =
+          subst (λ (l : List ℕ). P (taking l b))
+          (sym (arriving-none (v .fit-a .sender) h D (ltb-false D (length ca) t))) p
+
 taking-sent : (l : List ℕ) (s : Side) → taking l s .sent ≡ s .sent
 unfolding taking
 taking-sent [] s = refl
 taking-sent (y ∷ l) s = refl
+
+pub taking-host : (l : List ℕ) (s : Side) → taking l s .host ≡ s .host
+unfolding taking
+taking-host [] s = refl
+taking-host (y ∷ l) s = refl
 
 abbrev pub cellOf : Side → List Cell → Cell
 cellOf s cs = cellSent (eqb (s .end .sender .position) 0) s cs

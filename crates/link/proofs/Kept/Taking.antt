@@ -1,6 +1,7 @@
 -- A side takes a symbol of the line: the invariant is kept, and one cell more has arrived.
 --   takingAs s b     the side b after it has taken the symbol s
 --   taking-as        it is what the side becomes
+--   takingBy, by-as  the same by what the tests gave: a frame was accepted, a message entered
 --   taking-entered   a frame that carries message k leaves it entered
 --   taking-kept      the invariant
 -- Assumes nothing.
@@ -43,7 +44,7 @@ unfolding taking
 taking-as s b fine h = rw (take-good (b .end) s fine h)
 
 -- the side after it, where t says that a frame was accepted and n that its message entered
-abbrev takingBy : Bool → Bool → ℕ → Side → Side
+abbrev pub takingBy : Bool → Bool → ℕ → Side → Side
 takingBy t n s b = record {
   end = record {
     sender = b .end .sender;
@@ -59,7 +60,7 @@ takingBy t n s b = record {
   log = entering n (messageAt (entered n (placed s (b .end .collector)) (settled (b .end)))) (b .log);
 }
 
-by-as : (s : ℕ) (b : Side) → takingAs s b ≡ takingBy (accepts s (b .end .collector)) (entersNow s (b .end)) s b
+pub by-as : (s : ℕ) (b : Side) → takingAs s b ≡ takingBy (accepts s (b .end .collector)) (entersNow s (b .end)) s b
 unfolding taken
 by-as s b = refl
 
@@ -77,8 +78,7 @@ module _ {a b : Side} {ca cb : List Cell} {D E pa pb : ℕ} (v : Inv a b ca cb (
   abbrev f : Frame
   f = frameAt ca D
 
-  settled-now : Filling (b .end .heard) (settled (b .end)) (b .host .stage) (b .host .soFar) (a .host .accepted)
-      (b .log .entered) (b .host .taken) (v .ab .ha)
+  settled-now : Filling (b .end .heard) (settled (b .end)) (a .host .accepted) (b .log .entered) (v .ab .ha)
   settled-now = settled-filling (b .end) (ha-entered v) (v .ab .filling)
 
   none-ab : Way a (takingBy false false s b) ca cb D E pa
@@ -120,8 +120,8 @@ module _ {a b : Side} {ca cb : List Cell} {D E pa pb : ℕ} (v : Inv a b ca cb (
     newer : 2 * v .ab .ha + num (b .end .heard .valid) ≤ 2 * f .ackCount + num (saidBy l .valid)
     newer = le-trans (onward-older (v .fit-a .line) (v .ab .onward) .heard) (le-of-eq (sym rank-is))
 
-    frame-filling : Filling (saidBy l) (entered n l (settled (b .end))) (b .host .stage) (b .host .soFar)
-        (a .host .accepted) (takingBy true n s b .log .entered) (b .host .taken) (f .ackCount)
+    frame-filling : Filling (saidBy l) (entered n l (settled (b .end))) (a .host .accepted)
+        (takingBy true n s b .log .entered) (f .ackCount)
     frame-filling = heard-filling settled-now l (f .ackCount) carries (acked-entered v D) newer n r
 
     longer : length (takingBy true n s b .log .entered) ≡ length (b .log .entered) + num n
@@ -168,7 +168,8 @@ module _ {a b : Side} {ca cb : List Cell} {D E pa pb : ℕ} (v : Inv a b ca cb (
       back = record { newest = v .ba .back .newest; heard = le-refl _; frames = v .ba .back .frames };
     }
 
-  pub taking-entered : (k : ℕ) → accepts s (b .end .collector) ≡ true → k ≤ length (b .host .taken)
+  pub taking-entered : (k : ℕ) → accepts s (b .end .collector) ≡ true
+      → k + num (b .end .inbox .full) ≤ length (b .log .entered)
       → 2 * k + 1 ≤ rank (frameAt ca D)
       → k < length (takingAs s b .log .entered)
   unfolding taken
@@ -177,8 +178,13 @@ module _ {a b : Side} {ca cb : List Cell} {D E pa pb : ℕ} (v : Inv a b ca cb (
       rw q
       (subst (λ (n : ℕ). k < n) (sym (longer frame-is (enters true (saidBy l) (settled (b .end))) refl))
       (enters-must (f .ackCount) (acked-entered v D) (saidBy l .valid) (saidBy l .toggle) (inOf (settled (b .end)))
-      (carries frame-is _ refl .toggle) (newer frame-is _ refl) (settled-now .receiving) k h
+      (carries frame-is _ refl .toggle) (newer frame-is _ refl) (settled-now .receiving) k
+      (left (length (b .log .entered)) (settled-now .gone) (num (b .end .inbox .full))
+      (settled-now .receiving .taken) h)
       (le-trans r (le-of-eq (sym (rank-is frame-is _ refl))))))
+    where
+      left : (e g f : ℕ) → e ≡ g + f → k + f ≤ e → k ≤ g
+      left e g f x y = omega arith
 
   module _ (fine : bad (taken s (b .end)) ≡ false) (shaped : Shaped (taken s (b .end))) where
     -- by what the two tests gave
@@ -192,6 +198,7 @@ module _ {a b : Side} {ca cb : List Cell} {D E pa pb : ℕ} (v : Inv a b ca cb (
         sender = v .fit-b .sender;
         line = v .fit-b .line;
         sync = joins .sync;
+        stored = v .fit-b .stored;
       };
       ab = ways t n p q .0;
       ba = ways t n p q .1;

@@ -30,6 +30,7 @@ sentAs b s = record {
   log = record {
     loadCount = cond (b && loads (stepOne (acked (s .end)) (s .end))) (s .log .loadCount + 1) (s .log .loadCount);
     ackCount = cond (b && acked (s .end)) (s .log .ackCount + 1) (s .log .ackCount);
+    seenCount = s .log .seenCount;
     entered = s .log .entered;
   };
 }

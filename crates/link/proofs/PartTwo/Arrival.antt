@@ -19,6 +19,7 @@ use Rattle.frame.proofs.FrameLaws.{build-below}
 use Rattle.receiver.specs.Receiving.{accepts, countWith}
 use Rattle.end.specs.Taking.{taken}
 use Rattle.endlaws.proofs.Goods.{good}
+use Rattle.protocol.specs.Steps.{num}
 use Rattle.link.specs.Link.{Side, Harm, sound, mark, harmed, arriving, taking}
 use Rattle.link.proofs.Line.{Cell, cellAt, frameAt, rank, symbolIn}
 use Rattle.link.proofs.Line.Arriving.{arriving-some, arriving-none}
@@ -104,7 +105,8 @@ module _ {a b : Side} {ca cb : List Cell} {D E pa pb : ℕ} (v : Inv a b ca cb (
           sound-accepts (b .end .collector) (cellAt ca (suc D)) y (v .fit-b .shaped .collecting)
           (good (b .end) (v .fit-b .good) .count) (v .fit-b .sync) next last (all (omega arith) (omega arith) ∙ last)
 
-      pub arrival-entered : (k : ℕ) → k ≤ length (b .host .taken) → 2 * k + 1 ≤ rank (frameAt ca D)
+      pub arrival-entered : (k : ℕ) → k + num (b .end .inbox .full) ≤ length (b .log .entered)
+          → 2 * k + 1 ≤ rank (frameAt ca D)
           → k < length (taking arrives b .log .entered)
       arrival-entered k m r =
           subst (λ (x : Side). k < length (x .log .entered)) (sym arrives-as)

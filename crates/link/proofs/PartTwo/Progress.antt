@@ -11,15 +11,19 @@ use Prim.Native.Nat.{ℕ, _+_, _*_, _%_, _≤_, _<_}
 use mathlib.Core.Bool.{Bool, true, false, cond}
 use mathlib.Core.List.{List, [], _∷_}
 use mathlib.Core.Path.{_≡_, refl, sym, ap, _∙_, subst}
-use native.Mathlib.Nat.{le-refl, le-trans}
+use native.Mathlib.Nat.{le-refl, le-trans, le-of-eq}
 use native.Mathlib.Omega.{arith}
 use lib.Dec.{eqb}
 use lib.ListN.{length, getD, List·getD-append}
 use Rattle.receiver.specs.declared.Collector.{Collector}
+use Rattle.receiver.specs.declared.Inbox.{Inbox}
 use Rattle.end.specs.Registers.{readOf}
+use Rattle.end.specs.declared.End.{End}
+use Rattle.endlaws.proofs.Done.{read-case}
 use Rattle.endlaws.proofs.Left.{read-leaves, write-leaves, health-leaves}
-use Rattle.link.specs.Link.{Message, Log, Side, also, Access, read, write, health, present, receiveSide}
-use Rattle.link.specs.Link.{gathered, advance, acceptsNow, hosted}
+use Rattle.protocol.specs.Steps.{num}
+use Rattle.link.specs.Link.{Message, Side, also, Access, read, write, health, present, receiveSide}
+use Rattle.link.specs.Link.{advance, acceptsNow, hosted}
 use Rattle.link.proofs.Line.{Cell, cellAt, frameAt, rank}
 use Rattle.link.proofs.Invariant.Logs.{length-more}
 use Rattle.link.proofs.Invariant.OneWay.{noMessage}
@@ -39,7 +43,7 @@ pub record Prog (a b : Side) (ca cb : List Cell) (D E pa k n₀ t₁ t₂ t₃ n
   pub acknowledged : k ≤ a .log .ackCount
   pub accepted : k < length (a .host .accepted)
   pub message : getD (a .host .accepted) k noMessage ≡ m
-  pub taken : k ≤ length (b .host .taken)
+  pub left : k + num (b .end .inbox .full) ≤ length (b .log .entered)
   pub loaded : t₁ < n → k < a .log .loadCount
   pub ranks : (i : ℕ) → i + t₁ < n → 2 * k + 1 ≤ rank (frameAt ca i)
   pub abreast-b : Abreast (b .end .collector) ca D n₀ n
@@ -61,19 +65,25 @@ same-at false l m i h = refl
 -- message k stays accepted, where it is
 record HostLeaves (k : ℕ) (x y : Side) : Type 0 where
   collector : y .end .collector ≡ x .end .collector
-  log : y .log ≡ x .log
+  loadCount : y .log .loadCount ≡ x .log .loadCount
+  ackCount : y .log .ackCount ≡ x .log .ackCount
+  entered : y .log .entered ≡ x .log .entered
   accepted : k < length (x .host .accepted) → k < length (y .host .accepted)
   message : k < length (x .host .accepted)
       → getD (y .host .accepted) k noMessage ≡ getD (x .host .accepted) k noMessage
-  taken : length (x .host .taken) ≤ length (y .host .taken)
+  full : num (y .end .inbox .full) ≤ num (x .end .inbox .full)
 
 hosted-leaves : (k : ℕ) (c : Access) (s : Side) → HostLeaves k s (hosted c s)
 hosted-leaves k (read r) s = record {
   collector = read-leaves (s .end) r .collector;
-  log = refl;
+  loadCount = refl;
+  ackCount = refl;
+  entered = refl;
   accepted = λ h. subst (λ (l : List Message). k < length l) (sym (same (receiveSide r))) h;
   message = λ h. ap (λ (l : List Message). getD l k noMessage) (same (receiveSide r));
-  taken = more (receiveSide r);
+  full =
+      read-case (λ (e : End). num (e .inbox .full) ≤ num (s .end .inbox .full)) (s .end) (le-refl _) r
+      (λ _ _. less (eqb r 2317));
 }
   where
     v : ℕ
@@ -83,47 +93,53 @@ hosted-leaves k (read r) s = record {
     same true = refl
     same false = refl
 
-    more : (b : Bool) → length (s .host .taken) ≤ length (cond b (advance r v (s .host)) (s .host) .taken)
-    more true = longer (eqb r 2317) (s .host .taken) (gathered r v (s .host .soFar))
-    more false = le-refl _
+    less : (u : Bool) → num (cond u false (s .end .inbox .full)) ≤ num (s .end .inbox .full)
+    less true = omega arith
+    less false = le-refl _
 hosted-leaves k (write r v l) s = record {
   collector = write-leaves (s .end) r v .collector;
-  log = refl;
+  loadCount = refl;
+  ackCount = refl;
+  entered = refl;
   accepted = λ h. le-trans h (longer (acceptsNow r v (s .end)) (s .host .accepted) _);
   message = λ h. same-at (acceptsNow r v (s .end)) (s .host .accepted) _ k h;
-  taken = le-refl _;
+  full = le-of-eq (ap (λ (i : Inbox). num (i .full)) (write-leaves (s .end) r v .inbox));
 }
 hosted-leaves k (health n) s = record {
   collector = health-leaves (s .end) n .collector;
-  log = refl;
+  loadCount = refl;
+  ackCount = refl;
+  entered = refl;
   accepted = λ h. h;
   message = λ h. refl;
-  taken = le-refl _;
+  full = le-of-eq (ap (λ (i : Inbox). num (i .full)) (health-leaves (s .end) n .inbox));
 }
 hosted-leaves k present s = record {
   collector = refl;
-  log = refl;
+  loadCount = refl;
+  ackCount = refl;
+  entered = refl;
   accepted = λ h. h;
   message = λ h. refl;
-  taken = le-refl _;
+  full = le-refl _;
 }
 
 module _ {a b : Side} {ca cb : List Cell} {D E pa k n₀ t₁ t₂ t₃ n : ℕ} {m : Message}
     (g : Prog a b ca cb D E pa k n₀ t₁ t₂ t₃ n m) (c : Access) where
   pub host-a : Prog (hosted c a) b ca cb D E pa k n₀ t₁ t₂ t₃ n m
   host-a = record {
-    acknowledged = subst (λ (l : Log). k ≤ l .ackCount) (sym (q .log)) (g .acknowledged);
+    acknowledged = subst (λ (n : ℕ). k ≤ n) (sym (q .ackCount)) (g .acknowledged);
     accepted = q .accepted (g .accepted);
     message = q .message (g .accepted) ∙ g .message;
-    taken = g .taken;
-    loaded = λ h. subst (λ (l : Log). k < l .loadCount) (sym (q .log)) (g .loaded h);
+    left = g .left;
+    loaded = λ h. subst (λ (n : ℕ). k < n) (sym (q .loadCount)) (g .loaded h);
     ranks = g .ranks;
     abreast-b = g .abreast-b;
     entered = g .entered;
     entries = g .entries;
     abreast-a = λ h p. ap (λ (x : Collector). x .count) (q .collector) ∙ g .abreast-a h p;
     heard = g .heard;
-    done = λ h. subst (λ (l : Log). k < l .ackCount) (sym (q .log)) (g .done h);
+    done = λ h. subst (λ (n : ℕ). k < n) (sym (q .ackCount)) (g .done h);
   }
     where
       q : HostLeaves k a (hosted c a)
@@ -134,11 +150,13 @@ module _ {a b : Side} {ca cb : List Cell} {D E pa k n₀ t₁ t₂ t₃ n : ℕ}
     acknowledged = g .acknowledged;
     accepted = g .accepted;
     message = g .message;
-    taken = le-trans (g .taken) (q .taken);
+    left =
+        subst (λ (l : List Message). k + num (hosted c b .end .inbox .full) ≤ length l) (sym (q .entered))
+        (fewer (q .full) (g .left));
     loaded = g .loaded;
     ranks = g .ranks;
     abreast-b = λ h p. ap (λ (x : Collector). x .count) (q .collector) ∙ g .abreast-b h p;
-    entered = λ h. subst (λ (l : Log). k < length (l .entered)) (sym (q .log)) (g .entered h);
+    entered = λ h. subst (λ (l : List Message). k < length l) (sym (q .entered)) (g .entered h);
     entries = g .entries;
     abreast-a = g .abreast-a;
     heard = g .heard;
@@ -147,3 +165,6 @@ module _ {a b : Side} {ca cb : List Cell} {D E pa k n₀ t₁ t₂ t₃ n : ℕ}
     where
       q : HostLeaves k b (hosted c b)
       q = hosted-leaves k c b
+
+      fewer : {x y n : ℕ} → x ≤ y → k + y ≤ n → k + x ≤ n
+      fewer e f = omega arith

@@ -15,16 +15,21 @@ use lib.Dec.{eqb, ltb}
 use lib.ListN.{length, getD}
 use borrow.Author.Tests.{ltb-true, ltb-false, eqb-false, eq-eqb}
 use Rattle.receiver.specs.declared.Collector.{Collector}
-use Rattle.end.specs.Taking.{takeOf}
+use Rattle.receiver.specs.declared.Inbox.{Inbox}
+use Rattle.receiver.specs.Receiving.{placed, saidBy, enters}
+use Rattle.end.specs.Taking.{settled, takeOf}
 use Rattle.endlaws.proofs.Left.{send-leaves}
+use Rattle.protocol.specs.Steps.{num}
 use Rattle.link.specs.Link.{Message, Host, Side, messageIn, acksNow, loadsNow, sends, Harm, arriving, entersNow}
 use Rattle.link.specs.Link.{taking}
 use Rattle.link.proofs.Line.{Cell, cellAt, frameAt, rank, Line}
 use Rattle.link.proofs.Line.Sent.{sends-as, cellSent}
+use Rattle.link.proofs.Invariant.Logs.{length-more}
 use Rattle.link.proofs.Invariant.OneWay.{noMessage}
 use Rattle.link.proofs.Invariant.{Inv, exchanged}
 use Rattle.link.proofs.Kept.Sending.{no-less, new-loads, acknowledged-is}
-use Rattle.link.proofs.Kept.Slot.{cellOf, frameArrives, hears, both-sent}
+use Rattle.link.proofs.Kept.Taking.{takingBy}
+use Rattle.link.proofs.Kept.Slot.{cellOf, frameArrives, hears, both-sent, arrive-case}
 use Rattle.link.proofs.PartTwo.Progress.{Schedule, Abreast, Prog, longer}
 use Rattle.link.proofs.PartTwo.Arrival.{NoneMarked, arrival-abreast, arrival-entered, arrival-heard}
 
@@ -127,6 +132,26 @@ module _ {a b : Side} {ca cb : List Cell} {D E pa pb k n₀ t₁ t₂ t₃ : ℕ
       ap (λ (c : Collector). c .count) (send-leaves (a .end) .collector)
       ∙ g .abreast-a (omega (arith, level)) (omega (arith, level))
 
+  -- the far register has room when the message comes
+  abbrev Left : Side → Type 0
+  Left x = k + num (x .end .inbox .full) ≤ length (x .log .entered)
+
+  sent-left : Left (sends b)
+  sent-left = subst (λ (i : Inbox). k + num (i .full) ≤ n-entered) (sym (send-leaves (b .end) .inbox)) (g .left)
+    where
+      n-entered : ℕ
+      n-entered = length (b .log .entered)
+
+  takes-left : (y : ℕ) (t e : Bool)
+      → enters t (saidBy (placed y (sends b .end .collector))) (settled (sends b .end)) ≡ e
+      → Left (takingBy t e y (sends b))
+  takes-left y t true q =
+      more (length (b .log .entered)) _ (num (sends b .end .inbox .full)) (length-more (b .log .entered) _) sent-left
+    where
+      more : (x z f : ℕ) → z ≡ suc x → k + f ≤ x → k + 1 ≤ z
+      more x z f e h = omega arith
+  takes-left y t false q = sent-left
+
   module _ (ha hb : Harm) (none-a : NoneMarked E ha (sends b)) (none-b : NoneMarked D hb (sends a)) where
     abbrev toA : List ℕ
     toA = arriving E ha (sends b .sent)
@@ -147,7 +172,7 @@ module _ {a b : Side} {ca cb : List Cell} {D E pa pb k n₀ t₁ t₂ t₃ : ℕ
         (λ e.
         let there : D < suc n = omega arith in
         arrival-entered (both-sent v) n₀ sent-abreast-b hb none-b there
-        (last-place (both-sent v .fit-a .line) D t₁ refl there (s .start₁) e) (omega (arith, s .first)) k (g .taken)
+        (last-place (both-sent v .fit-a .line) D t₁ refl there (s .start₁) e) (omega (arith, s .first)) k sent-left
         (ranks-by D (omega arith)))
 
     heard-by : t₂ + 12 + E ≤ suc n → k < hears E toA (sends a) cb′ pa
@@ -169,7 +194,7 @@ module _ {a b : Side} {ca cb : List Cell} {D E pa pb k n₀ t₁ t₂ t₃ : ℕ
       acknowledged = subst (λ (m : ℕ). k ≤ m) (sym (near .ackCount)) (le-trans (g .acknowledged) acked-more);
       accepted = subst (λ (h : Host). k < length (h .accepted)) (sym (near .host)) (g .accepted);
       message = ap (λ (h : Host). getD (h .accepted) k noMessage) (near .host) ∙ g .message;
-      taken = subst (λ (h : Host). k ≤ length (h .taken)) (sym (far .host)) (g .taken);
+      left = arrive-case (both-sent v) Left sent-left takes-left hb;
       loaded = λ h. subst (λ (m : ℕ). k < m) (sym (near .loadCount)) (loaded-by h);
       ranks = ranks-by;
       abreast-b = arrival-abreast (both-sent v) n₀ sent-abreast-b hb none-b;

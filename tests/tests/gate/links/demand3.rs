@@ -14,6 +14,10 @@ type Message = [u16; 5];
 /// One way over the link: what was offered at its near end and what became of it at its far end.
 #[derive(Default)]
 struct Way {
+    /// What the near host wrote last to 3.2309 to 3.2312 and was answered 0.
+    written: [u16; 4],
+    /// How many were acknowledged when it last read 3.2308.
+    looked: usize,
     accepted: Vec<Message>,
     taken: Vec<Message>,
     loaded: usize,
@@ -31,24 +35,29 @@ struct Run {
     delays: usize,
     /// Way n goes from end n to end 1 - n.
     ways: [Way; 2],
+    /// The host of this end reads its receive side as it likes. The messages that it takes are then promised a time
+    /// alone; the other way is promised all.
+    wild: Option<usize>,
 }
 
 impl Run {
     fn new(seed: u64) -> Run {
         let mut random = Random::new(seed);
         let (forth, back) = (random.word(41), random.word(41));
-        Run { random, link: Link::new(forth, back), delays: usize::from(forth + back), ways: Default::default() }
+        let wild = [None, None, Some(0), Some(1)][random.below(4)];
+        Run { random, link: Link::new(forth, back), delays: usize::from(forth + back), ways: Default::default(), wild }
     }
 
     fn step(&mut self, lossy: bool) {
         let side = self.random.below(2);
         match self.random.below(10) {
             0 => self.offer(side),
+            1 if self.wild == Some(side) => self.read_wildly(side),
             1 => self.read_on(side),
             2 => self.other_call(side),
             _ => self.slot(lossy),
         }
-        self.ways[side].check(&self.link, side);
+        self.ways[side].check(&self.link, side, self.wild != Some(1 - side));
     }
 
     fn slot(&mut self, lossy: bool) {
@@ -66,14 +75,18 @@ impl Run {
         }
     }
 
-    /// The near host writes some bytes, then offers what stands there.
+    /// The near host writes some bytes, then offers what it wrote last.
     fn offer(&mut self, side: usize) {
         let end = &mut self.link.ends[side];
         let was_pending = end.pending;
-        for register in 2309..2313 {
+        for place in 0..4 {
             if self.random.bool() {
-                let answer = end.write(register, self.random.word(65536));
+                let value = self.random.word(65536);
+                let answer = end.write(2309 + place as u16, value);
                 assert_eq!(answer == Answer::Done, !was_pending);
+                if answer == Answer::Done {
+                    self.ways[side].written[place] = value;
+                }
             }
         }
         let value = 0x8000 | control_value(&mut self.random);
@@ -83,16 +96,18 @@ impl Run {
             return;
         }
         let mut message = [value >> 8 & 0xF; 5];
-        for (word, register) in message[1..].iter_mut().zip(2309..) {
-            *word = end.read(register).1;
-        }
+        message[1..].copy_from_slice(&self.ways[side].written);
         let far_is_empty = !self.link.ends[1 - side].full;
         self.ways[side].accept(message, far_is_empty, 58 + self.delays);
     }
 
-    /// The next receive-side read by document 01's rule for hosts, at end `side`.
+    /// The next receive-side read by document 01's rule for hosts, at end `side`; or 3.2313 again, which begins the take
+    /// anew.
     fn read_on(&mut self, side: usize) {
         let way = &mut self.ways[1 - side];
+        if self.random.one_in(8) {
+            way.reading.clear();
+        }
         let (answer, value) = self.link.ends[side].read(2313 + way.reading.len() as u16);
         assert_eq!(answer, Answer::Done);
         match way.reading.len() {
@@ -108,10 +123,30 @@ impl Run {
         }
     }
 
+    /// A receive-side read by no rule.
+    fn read_wildly(&mut self, side: usize) {
+        let (answer, _) = self.link.ends[side].read(2313 + self.random.word(5));
+        assert_eq!(answer, Answer::Done);
+    }
+
+    /// Received says that a message was acknowledged since 3.2308 was last read, the received toggle is that of the last
+    /// one: they alternate from 0.
+    fn look(&mut self, side: usize) {
+        let way = &mut self.ways[side];
+        let (answer, value) = self.link.ends[side].read(2308);
+        assert_eq!(answer, Answer::Done);
+        assert_eq!(value >> 13 & 1 == 1, way.acknowledged > way.looked);
+        assert_eq!(value >> 12 & 1 == 1, way.acknowledged > 0 && way.acknowledged % 2 == 0);
+        way.looked = way.acknowledged;
+    }
+
     fn other_call(&mut self, side: usize) {
+        if self.random.one_in(5) {
+            return self.look(side);
+        }
         let end = &mut self.link.ends[side];
         match self.random.below(4) {
-            0 => drop(end.read(2308 + self.random.word(5))),
+            0 => drop(end.read(2309 + self.random.word(4))),
             1 => assert_eq!(end.set_health(self.random.word(4)), Answer::Done),
             // Bit 15 clear: PingTx, and the number where nothing is pending; no message is in its way.
             2 => {
@@ -153,11 +188,13 @@ impl Way {
     }
 
     /// Taken is a prefix of accepted, at most three fewer, and each of the three named places holds what it should.
-    fn check(&self, link: &Link, side: usize) {
+    fn check(&self, link: &Link, side: usize, by_rule: bool) {
         let (near, far) = (&link.ends[side], &link.ends[1 - side]);
-        assert!(self.accepted.starts_with(&self.taken), "not a prefix");
-        assert!(self.accepted.len() - self.taken.len() <= 3);
-        assert_eq!(self.entered, self.taken.len() + usize::from(far.full));
+        if by_rule {
+            assert!(self.accepted.starts_with(&self.taken), "not a prefix");
+            assert!(self.accepted.len() - self.taken.len() <= 3);
+            assert_eq!(self.entered, self.taken.len() + usize::from(far.full));
+        }
         assert_eq!(self.accepted.len(), self.loaded + usize::from(near.pending));
         assert!(self.acknowledged <= self.entered && self.entered <= self.loaded);
         assert_eq!(near.ready, self.loaded == self.acknowledged);

@@ -1,6 +1,5 @@
 -- `writing::to_message` meets its contract, by whether a message is pending. Assumes nothing.
 use mathlib.Core.Path.{sym}
-use borrow.Author.Needs.{needs}
 use Rattle.end.proofs.RegisterLaws.{write-message, write-full}
 use Rattle.end.proofs.writing.to_message.Statement.{statement}
 use Rattle.end.proofs.writing.to_message.Tie as tie

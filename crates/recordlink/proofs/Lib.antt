@@ -1,0 +1,3 @@
+pub mod Mirror
+pub mod Demanded
+pub mod Computed

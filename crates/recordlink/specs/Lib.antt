@@ -1,0 +1,3 @@
+pub mod Joined
+pub mod Demand
+pub mod Restored

@@ -1,0 +1,1 @@
+// Specs only: two records joined, and demand 3 in bytes and replies.

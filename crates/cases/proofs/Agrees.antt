@@ -14,14 +14,14 @@ use Rattle.end.specs.Good.{bad}
 use Rattle.end.specs.Sending.{acked, frameStart, sendOf}
 use Rattle.end.specs.Taking.{taken, takeOf}
 use Rattle.end.specs.Registers.{readOf, writeOf, healthOf}
-use Rattle.link.specs.Link.{run, taking as takingSide}
+use Rattle.link.specs.Link.{runBy, taking as takingSide}
 use Rattle.cases.specs.Cases.{Case, P1, P2, P3, P4, P5, P6, P7, P8, P9, P10, P11, Agree, table}
 use Rattle.cases.specs.More.{Extra, Health, Ping, Toggles, Settling, ReadOnlyBits, taking, more}
 
 pub table-agrees : (c : Case) → Agree (table c)
 unfolding table odd bits number oddOnes plus times shift feed crc generator stream crcOf even evenSymbol oddSymbol
     symbols build crcRight noneMarked allOdd paritiesRight acceptable xor checkOf above bad acked frameStart sendOf
-    taken takeOf readOf writeOf run takingSide
+    taken takeOf readOf writeOf runBy takingSide
 table-agrees P1 = (refl, (refl, tt))
 table-agrees P2 = (refl, tt)
 table-agrees P3 = (refl, tt)
@@ -37,7 +37,7 @@ table-agrees P11 = (refl, (refl, tt))
 pub more-agrees : (c : Extra) → Agree (more c)
 unfolding more taking odd bits number oddOnes plus times shift feed crc generator stream crcOf even evenSymbol oddSymbol
     symbols build crcRight noneMarked allOdd paritiesRight acceptable xor checkOf above bad acked frameStart sendOf
-    taken takeOf readOf writeOf healthOf run takingSide
+    taken takeOf readOf writeOf healthOf runBy takingSide
 more-agrees Health = (refl, (refl, (refl, (refl, tt))))
 more-agrees Ping = (refl, (refl, (refl, tt)))
 more-agrees Toggles = (refl, (refl, tt))

@@ -6,3 +6,4 @@ pub mod Registers
 pub mod Names
 pub mod Calls
 pub mod Shape
+pub mod Worked

@@ -17,10 +17,11 @@ use Rattle.answer.specs.declared.Answer.the-variants.{BadHealth}
 use Rattle.crc.specs.Bits.{odd}
 use Rattle.end.specs.declared.End.{End}
 use Rattle.end.specs.declared.Outbox.{Outbox}
-use Rattle.end.specs.declared.Got.{Got}
+use Rattle.end.specs.declared.Read.{Read}
 use Rattle.end.specs.declared.Next.{Next}
 use Rattle.end.specs.Good.{bad}
-use Rattle.end.specs.Parts.{withSender, withOutbox, withInbox, withHealthToSend, withPending, withReceived, withNumber}
+use Rattle.end.specs.Parts.{withSender, withOutbox, withInbox, withHealthToSend, withPending, withReceived}
+use Rattle.end.specs.Parts.{withNumber}
 use Rattle.end.specs.Parts.{withPing, withBytes, withFull}
 use Rattle.end.specs.Sending.{bit}
 
@@ -62,7 +63,7 @@ readEnd e r =
     withInbox (withOutbox e (withReceived (e .outbox) (cond (eqb r 2308) false (e .outbox .received))))
     (withFull (e .inbox) (cond (eqb r 2317) false (e .inbox .full)))
 
-unfoldable pub readOf : End → ℕ → Got
+unfoldable pub readOf : End → ℕ → Read
 readOf e r =
     cond (bad e)
     (record { answer = BadEnd; value = 0; end = e })
@@ -83,7 +84,8 @@ blocked e r v = e .outbox .pending && (not (eqb r 2308) || odd (v / 32768))
 abbrev pub writeControl : Outbox → ℕ → Outbox
 writeControl o v =
     withPing
-    (withNumber (withPending o (cond (o .pending) true (odd (v / 32768)))) (cond (o .pending) (o .number) (v / 256 % 16)))
+    (withNumber (withPending o (cond (o .pending) true (odd (v / 32768))))
+    (cond (o .pending) (o .number) (v / 256 % 16)))
     (odd (v / 4))
 
 abbrev pub writeBytes : Outbox → ℕ → ℕ → Outbox

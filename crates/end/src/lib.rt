@@ -64,7 +64,7 @@ pub struct Sent {
 }
 
 // What read gives: the register's value.
-pub struct Got {
+pub struct Read {
     pub answer: Answer,
     pub value: u16,
     pub end: End,

@@ -1,6 +1,6 @@
 // Reading a register.
 use crate::End;
-use crate::Got;
+use crate::Read;
 use crate::good::bad;
 use crate::registers::Register;
 use crate::registers::named;
@@ -16,11 +16,11 @@ ghost use Rattle.end.specs.Registers.{pair, control, status, readOf};
 impl End {
     // A register's value. Reading 3.2308 clears Received, after giving it; reading 3.2317 makes the receive register
     // empty.
-    pub fn read(mut self, register: u16) -> Got
+    pub fn read(mut self, register: u16) -> Read
         ensures { λ r. ⌜ r ≡ readOf self register ⌝ }
     {
         if bad(self) {
-            return Got {
+            return Read {
                 answer: Answer::BadEnd,
                 value: 0,
                 end: self,
@@ -31,7 +31,7 @@ impl End {
             Register::Control => {
                 let value = control(self);
                 self.outbox.received = false;
-                Got {
+                Read {
                     answer: Answer::Done,
                     value,
                     end: self,
@@ -40,7 +40,7 @@ impl End {
             Register::Message(i) => {
                 let bytes = self.outbox.bytes;
                 let value = pair(bytes, i);
-                Got {
+                Read {
                     answer: Answer::Done,
                     value,
                     end: self,
@@ -48,7 +48,7 @@ impl End {
             }
             Register::Status => {
                 let value = status(self);
-                Got {
+                Read {
                     answer: Answer::Done,
                     value,
                     end: self,
@@ -59,13 +59,13 @@ impl End {
                 let value = pair(bytes, i);
                 let full = (i < 3) & self.inbox.full;
                 self.inbox.full = full;
-                Got {
+                Read {
                     answer: Answer::Done,
                     value,
                     end: self,
                 }
             }
-            Register::Outside => Got {
+            Register::Outside => Read {
                 answer: Answer::NoRegister,
                 value: 0,
                 end: self,

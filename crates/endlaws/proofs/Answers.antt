@@ -13,7 +13,7 @@ use lib.Dec.{ltb}
 use Rattle.answer.specs.Number.{numberOf}
 use Rattle.frame.specs.declared.reason.Reason.the-variants.{Nothing}
 use Rattle.end.specs.declared.End.{End}
-use Rattle.end.specs.declared.Got.{Got}
+use Rattle.end.specs.declared.Read.{Read}
 use Rattle.end.specs.declared.Next.{Next}
 use Rattle.end.specs.declared.Sent.{Sent}
 use Rattle.end.specs.declared.Taken.{Taken}
@@ -32,7 +32,7 @@ bad-met e = decides-iff (met e)
 abbrev sent : Sent → ℕ
 sent r = numberOf (r .answer)
 
-abbrev got : Got → ℕ
+abbrev got : Read → ℕ
 got r = numberOf (r .answer)
 
 abbrev took : Taken → ℕ
@@ -178,7 +178,7 @@ refused f P false p q h = q h
 abbrev Unsent : End → Sent → Type 0
 Unsent e r = (r .symbol ≡ 0) × (r .end ≡ e)
 
-abbrev Unread : End → Got → Type 0
+abbrev Unread : End → Read → Type 0
 Unread e r = (r .value ≡ 0) × (r .end ≡ e)
 
 abbrev Unmoved : End → Next → Type 0

@@ -18,7 +18,7 @@ use borrow.Author.Tests.{le-ltb}
 use Rattle.frame.specs.declared.reason.Reason.{Reason}
 use Rattle.receiver.specs.declared.Counts.{Counts}
 use Rattle.end.specs.declared.End.{End}
-use Rattle.end.specs.declared.Got.{Got}
+use Rattle.end.specs.declared.Read.{Read}
 use Rattle.end.specs.declared.Next.{Next}
 use Rattle.end.specs.declared.Sent.{Sent}
 use Rattle.end.specs.declared.Taken.{Taken}
@@ -87,7 +87,7 @@ module _ (k : Counts) (p : ℕ) (e : End) (range : ltb lasting p ≡ ltb lasting
   unfolding readOf
   read-apart r = go (bad e) (outside r) refl refl
     where
-      same : Got → Got
+      same : Read → Read
       same x = record { answer = x .answer; value = x .value; end = beside k p (x .end) }
 
       go : (b o : Bool) → bad e ≡ b → outside r ≡ o → readOf other r ≡ same (readOf e r)
@@ -158,7 +158,7 @@ module _ (k : Counts) (p : ℕ) (e : End) (range : ltb lasting p ≡ ltb lasting
       ≡ beside (after c (beside k p e) .counts) (after c (beside k p e) .presence) (after c e)
   after-apart Call.send = own (sendOf e .end) (ap (λ (x : Sent). x .end) (send-apart k p e range))
   after-apart (Call.take s) = own (takeOf e s .end) (ap (λ (x : Taken). x .end) (take-apart k p e range s))
-  after-apart (Call.read r) = own (readOf e r .end) (ap (λ (x : Got). x .end) (read-apart k p e range r))
+  after-apart (Call.read r) = own (readOf e r .end) (ap (λ (x : Read). x .end) (read-apart k p e range r))
   after-apart (Call.write r v h) = own (writeOf e r v .end) (ap (λ (x : Next). x .end) (write-apart k p e range r v))
   after-apart (Call.health x) = own (healthOf e x .end) (ap (λ (x : Next). x .end) (health-apart k p e range x))
   after-apart Call.present = refl
@@ -184,7 +184,7 @@ same-presence Call.send k e =
 same-presence (Call.take s) k e =
     ap (λ (x : Taken). x .end .presence) (take-apart k (e .presence) e refl s) ∙ sym (take-lapses e s)
 same-presence (Call.read r) k e =
-    ap (λ (x : Got). x .end .presence) (read-apart k (e .presence) e refl r) ∙ sym (read-leaves e r .presence)
+    ap (λ (x : Read). x .end .presence) (read-apart k (e .presence) e refl r) ∙ sym (read-leaves e r .presence)
 same-presence (Call.write r v h) k e =
     ap (λ (x : Next). x .end .presence) (write-apart k (e .presence) e refl r v) ∙ sym (write-leaves e r v .presence)
 same-presence (Call.health x) k e =

@@ -13,7 +13,7 @@ use borrow.Author.Tests.{le-ltb, lt-ltb, ltb-false}
 use Rattle.answer.specs.declared.Answer.the-variants.{Done, BadSymbol}
 use Rattle.frame.specs.declared.reason.Reason.the-variants.{Nothing}
 use Rattle.end.specs.declared.End.{End}
-use Rattle.end.specs.declared.Got.{Got}
+use Rattle.end.specs.declared.Read.{Read}
 use Rattle.end.specs.declared.Next.{Next}
 use Rattle.end.specs.declared.Sent.{Sent}
 use Rattle.end.specs.declared.Taken.{Taken}
@@ -55,8 +55,8 @@ module _ (P : End → Type 0) (e : End) (p : P e) where
   pub read-case : (r : ℕ) → (bad e ≡ false → outside r ≡ false → P (readEnd e r)) → P (readOf e r .end)
   unfolding readOf
   read-case r q =
-      either (λ (r : Got). P (r .end)) (bad e) _ _ (λ _. p)
-      (λ g. either (λ (r : Got). P (r .end)) (outside r) _ _ (λ _. p) (q g))
+      either (λ (r : Read). P (r .end)) (bad e) _ _ (λ _. p)
+      (λ g. either (λ (r : Read). P (r .end)) (outside r) _ _ (λ _. p) (q g))
 
   pub write-case : (r v : ℕ)
       → (bad e ≡ false → blocked e r v ≡ false → P (written e r v))

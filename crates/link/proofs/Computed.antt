@@ -21,8 +21,8 @@ use Rattle.end.specs.Good.{bad}
 use Rattle.end.specs.Sending.{acked, frameStart, sendOf}
 use Rattle.end.specs.Taking.{taken, takeOf}
 use Rattle.end.specs.Registers.{readOf, writeOf, healthOf}
-use Rattle.link.specs.Link.{Message, Side, aToB, bytesOf, messageWritten, taking, run, ruled}
-use Rattle.link.specs.Demand.{unmarked, slots, Landed}
+use Rattle.link.specs.Link.{Message, Side, aToB, bytesOf, messageWritten, taking, runBy, every}
+use Rattle.link.specs.Demand.{slots, Landed}
 use Rattle.link.specs.Tight.{quiet, sixteen, oneSlot, asked, short, late, TooSoon, BoundTight, crowded}
 use Rattle.link.specs.Tight.{MostTight}
 use Rattle.link.specs.Rule.{looked, took, begun}
@@ -42,7 +42,7 @@ second-other {far = far} e t = five-zero (sym (ap (λ (m : Message). m .number) 
         ∙ getD-append-seam (t .entered .0) five (t .entered .1) five
 
 pub cases : Cases
-unfolding run ruled taking bytesOf unmarked slots noneMarked
+unfolding runBy every taking bytesOf slots noneMarked
     above bad readOf writeOf healthOf sendOf acked frameStart taken takeOf
     odd xor bits number oddOnes plus times shift fed crc
     generator stream crcOf even evenSymbol oddSymbol symbols build crcRight
@@ -97,7 +97,7 @@ cases = record {
 }
 
 pub too-soon : TooSoon
-unfolding oneSlot asked late run taking unmarked slots noneMarked bytesOf
+unfolding oneSlot asked late runBy every taking slots noneMarked bytesOf
     above bad readOf writeOf sendOf acked frameStart taken takeOf
     odd xor bits number oddOnes plus times shift fed crc
     generator stream crcOf even evenSymbol oddSymbol symbols build crcRight
@@ -122,7 +122,7 @@ bound-tight promise = omega (arith, too-soon .not-yet, landed .acknowledged)
         late refl
 
 pub most-tight : MostTight
-unfolding crowded run taking
+unfolding crowded runBy taking
     above bad readOf writeOf sendOf acked frameStart taken takeOf
     odd xor bits number oddOnes plus times shift fed crc
     generator stream crcOf even evenSymbol oddSymbol symbols build crcRight

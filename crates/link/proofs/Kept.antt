@@ -23,7 +23,7 @@ use Rattle.end.proofs.Guards.{reset-shaped}
 use Rattle.endlaws.proofs.Goods.{reset-good}
 use Rattle.protocol.specs.Steps.{num}
 use Rattle.link.specs.Link.{Side, World, Access, read, write, health, present, bytesOf, hosted, Event, slot}
-use Rattle.link.specs.Link.{atA, atB, resetSide, resetWorld, step, run}
+use Rattle.link.specs.Link.{atA, atB, resetSide, resetWorld, step, run, runBy}
 use Rattle.link.proofs.Line.Words.{said, Says, word-says}
 use Rattle.link.proofs.Line.{Cell, silentCell}
 use Rattle.link.proofs.Invariant.OneWay.{DataOk, AckOk, Way}
@@ -127,6 +127,6 @@ step-kept D E (atA c) w k = with-inv k (host-kept (k .inv) c)
 step-kept D E (atB c) w k = with-inv k (exchanged (host-kept (exchanged (k .inv)) c))
 
 pub run-kept : (D E : ℕ) (es : List Event) (w : World) → Kept D E w → Kept D E (run D E es w)
-unfolding run
+unfolding runBy
 run-kept D E [] w k = k
 run-kept D E (e ∷ es) w k = run-kept D E es (step D E e w) (step-kept D E e w k)

@@ -26,7 +26,7 @@ use lib.Seq.{split-at, length-take-le, getD-take, getD-append-seam}
 use Rattle.laws.proofs.Bools.{and-both, and-true}
 use Rattle.protocol.specs.Steps.{num}
 use Rattle.link.specs.Link.{Message, Side, World, Direction, aToB, bToA, near, far, Event, slot, atA, atB, write}
-use Rattle.link.specs.Link.{hosted, acceptsNow, messageWritten, sound, resetWorld, step, run}
+use Rattle.link.specs.Link.{hosted, acceptsNow, messageWritten, sound, resetWorld, step, run, runBy, every, sends}
 use Rattle.link.specs.Demand.{atNear, Idle, unmarkedStep, unmarked, slots, bound, Landed, Delivered}
 use Rattle.link.proofs.Line.{Cell}
 use Rattle.link.proofs.Invariant.Logs.{length-more}
@@ -137,7 +137,8 @@ module _ (D E k n₀ t₁ t₂ t₃ : ℕ) (m : Message) where
   }
 
   step-going : (d : Direction) (e : Event) (w : World) (n : ℕ) → Schedule n₀ (ahead d D E) (home d D E) t₁ t₂ t₃
-      → unmarkedStep D E e w ≡ true → Going d w n → Going d (step D E e w) (isSlot e + n)
+      → unmarkedStep D E e (sends (w .a) .sent) (sends (w .b) .sent) ≡ true → Going d w n
+      → Going d (step D E e w) (isSlot e + n)
   step-going aToB (slot ha hb) w n s c g =
       let q = and-both _ _ c in
       slot-on aToB g _ (slot-kept (g .cells .inv) ha hb)
@@ -155,10 +156,11 @@ module _ (D E k n₀ t₁ t₂ t₃ : ℕ) (m : Message) where
 
   run-going : (d : Direction) → Schedule n₀ (ahead d D E) (home d D E) t₁ t₂ t₃ → (fs : List Event) (w : World) (n : ℕ)
       → unmarked D E fs w ≡ true → Going d w n → Going d (run D E fs w) (slots fs + n)
-  unfolding run unmarked slots
+  unfolding runBy every slots
   run-going d s [] w n c g = subst (λ (i : ℕ). Going d w i) (sym (zero-add n)) g
   run-going d s (e ∷ fs) w n c g =
-      let q = and-both (unmarkedStep D E e w) (unmarked D E fs (step D E e w)) c in
+      let q =
+      and-both (unmarkedStep D E e (sends (w .a) .sent) (sends (w .b) .sent)) (unmarked D E fs (step D E e w)) c in
       subst (λ (i : ℕ). Going d (run D E fs (step D E e w)) i) (regroup (isSlot e) (slots fs) (slots-more e fs))
       (run-going d s fs (step D E e w) (isSlot e + n) (q .1) (step-going d e w n s (q .0) g))
     where
@@ -317,10 +319,12 @@ delivered d D E es w is idle v h q x step-is fs clean enough y y-is =
     late : {t b c j : ℕ} → t < b + n → b ≡ c → c ≤ slots fs → slots fs + n ≡ j → t < j
     late a b c d = omega arith
 
-pub sound-unmarked : (D E : ℕ) (es : List Event)
-    → unmarkedStep D E (slot sound sound) (run D E es resetWorld) ≡ true
-sound-unmarked D E es =
-    and-true _ _ (sound-arrives (exchanged (both-sent (k .inv)))) (sound-arrives (both-sent (k .inv)))
+pub sound-unmarked : (D E : ℕ) (es : List Event) (w : World) → w ≡ run D E es resetWorld
+    → unmarked D E (slot sound sound ∷ []) w ≡ true
+unfolding every
+sound-unmarked D E es w is =
+    and-true _ _
+    (and-true _ _ (sound-arrives (exchanged (both-sent (k .inv)))) (sound-arrives (both-sent (k .inv)))) refl
   where
-    k : Kept D E (run D E es resetWorld)
-    k = run-kept D E es resetWorld (reset-kept D E)
+    k : Kept D E w
+    k = subst (λ (w : World). Kept D E w) (sym is) (run-kept D E es resetWorld (reset-kept D E))

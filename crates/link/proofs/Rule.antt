@@ -23,7 +23,7 @@ use Rattle.laws.proofs.Bools.{and-both, or-cases}
 use Rattle.link.specs.Link.{Message, Host, Side, World, resetWorld, Direction, aToB, bToA, far, also, Access}
 use Rattle.link.specs.Link.{read, write, health, present, bit15, receiveSide, ruledCall, bytesOf, gathered}
 use Rattle.link.specs.Link.{advance}
-use Rattle.link.specs.Link.{hosted, sends, Event, slot, atA, atB, step, run, ruled}
+use Rattle.link.specs.Link.{hosted, sends, Event, slot, atA, atB, step, run, ruled, runBy, every}
 use Rattle.link.specs.Rule.{ReadOut, gave, readsBy, reads, begunReads, Takes, none, looked, took, begun, again}
 use Rattle.link.specs.Rule.{messageOf, messages, RuleIs, DocumentIs, NotAnew, TakenIs}
 use Rattle.link.proofs.Kept.Slot.{taking-host}
@@ -92,7 +92,7 @@ call-messages present s l = refl
 module _ (D E : ℕ) where
   ruled-order : (d : Direction) (es : List Event) (w : World)
       → ruled d D E es w ≡ inOrder (far d w .host .stage) (reads d D E es w)
-  unfolding ruled reads inOrder
+  unfolding every reads inOrder
   ruled-order d [] w = refl
   ruled-order aToB (slot ha hb ∷ es) w =
       ruled-order aToB es (step D E (slot ha hb) w) ∙ rw (taking-host _ (sends (w .b)))
@@ -105,7 +105,7 @@ module _ (D E : ℕ) where
 
   taken-messages : (d : Direction) (es : List Event) (w : World)
       → far d (run D E es w) .host .taken ≡ far d w .host .taken ++ messagesBy (far d w .host .soFar) (reads d D E es w)
-  unfolding run reads messagesBy
+  unfolding runBy reads messagesBy
   taken-messages d [] w = sym (append-nil _)
   taken-messages aToB (slot ha hb ∷ es) w =
       taken-messages aToB es (step D E (slot ha hb) w)

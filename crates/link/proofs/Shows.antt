@@ -15,7 +15,7 @@ use lib.Dec.{eqb, ltb}
 use borrow.Author.Tests.{eqb-true, eqb-false, lt-ltb, le-ltb}
 use Rattle.crc.specs.Bits.{odd}
 use Rattle.end.specs.declared.End.{End}
-use Rattle.end.specs.declared.Got.{Got}
+use Rattle.end.specs.declared.Read.{Read}
 use Rattle.end.specs.declared.Outbox.{Outbox}
 use Rattle.end.specs.Good.{bad}
 use Rattle.end.specs.Sending.{acked, frameStart}
@@ -27,7 +27,7 @@ use Rattle.laws.proofs.Bools.{and-both}
 use Rattle.protocol.specs.Steps.{num}
 use Rattle.protocol.proofs.Keeps.{num-le}
 use Rattle.link.specs.Link.{Side, World, resetWorld, Direction, aToB, bToA, near, Access, read, write, health}
-use Rattle.link.specs.Link.{present, hosted, sends, taking, Event, slot, atA, atB, step, run}
+use Rattle.link.specs.Link.{present, hosted, sends, taking, Event, slot, atA, atB, step, run, runBy}
 use Rattle.link.specs.Demand.{controlValue, bit13, bit12}
 use Rattle.link.specs.Acknowledged.{Shown, SeenByHosts}
 use Rattle.link.proofs.Line.Words.{bit-num, odd-is}
@@ -94,7 +94,7 @@ hosted-shows (read r) s fine h = go (eqb r 2308) refl
     go true q =
         subst (λ (r : ℕ). ShowsBy (readOf (s .end) r .end .outbox) n n) (sym (eqb-true r 2308 q)) (record {
           received =
-              ap (λ (g : Got). g .end .outbox .received) (read-done (s .end) 2308 fine refl)
+              ap (λ (g : Read). g .end .outbox .received) (read-done (s .end) 2308 fine refl)
               ∙ sym (le-ltb n n (le-refl n));
           confirmed = ap num (read-leaves (s .end) 2308 .confirmed) ∙ h .confirmed;
           past = le-refl n;
@@ -130,7 +130,7 @@ step-shows D E (atA c) w k h = record { a = hosted-shows c (w .a) (k .inv .fit-a
 step-shows D E (atB c) w k h = record { a = h .a; b = hosted-shows c (w .b) (k .inv .fit-b .good) (h .b) }
 
 pub run-shows : (D E : ℕ) (es : List Event) (w : World) → Kept D E w → BothShow w → BothShow (run D E es w)
-unfolding run
+unfolding runBy
 run-shows D E [] w k h = h
 run-shows D E (e ∷ es) w k h = run-shows D E es (step D E e w) (step-kept D E e w k) (step-shows D E e w k h)
 
@@ -160,7 +160,7 @@ module _ {a b : Side} {ca cb : List Cell} {D E pa pb : ℕ} (i : Inv a b ca cb D
       + 4096 * num (e .outbox .confirmed) + 256 * e .outbox .number + 8 * num (e .heard .got)
       + 4 * num (e .outbox .ping) + e .sender .loaded
   value-is =
-      ap (λ (g : Got). g .value) (read-done e 2308 (i .fit-a .good) refl)
+      ap (λ (g : Read). g .value) (read-done e 2308 (i .fit-a .good) refl)
       ∙ rw (
         bit-num (e .outbox .pending) 32768,
         bit-num (e .outbox .toggle) 16384,

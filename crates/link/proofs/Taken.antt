@@ -19,7 +19,7 @@ use Rattle.end.specs.Registers.{readOf}
 use Rattle.endlaws.proofs.Left.{write-leaves, health-leaves}
 use Rattle.link.specs.Link.{Side, World, Direction, aToB, bToA, near, far, also, Access, read, write}
 use Rattle.link.specs.Link.{health, present, receiveSide, advance, acceptsNow, messageWritten, ruledCall}
-use Rattle.link.specs.Link.{hosted, Event, slot, atA, atB, resetWorld, step, ruledStep, run, ruled}
+use Rattle.link.specs.Link.{hosted, Event, slot, atA, atB, resetWorld, step, ruledStep, run, ruled, runBy, every}
 use Rattle.link.proofs.Line.{Cell}
 use Rattle.link.proofs.Invariant.{Inv, exchanged}
 use Rattle.link.proofs.Kept.{Kept, reset-kept, step-kept}
@@ -67,7 +67,8 @@ far-took {a} {b} i (health k) q t =
     (sym (health-leaves (a .end) k .inbox)) t
 far-took i present q t = t
 
-step-took : (d : Direction) (D E : ℕ) (e : Event) (w : World) → ruledStep d e w ≡ true → Kept D E w → Taker d w
+step-took : (d : Direction) (D E : ℕ) (e : Event) (w : World) → ruledStep d e (w .a .host) (w .b .host) ≡ true
+    → Kept D E w → Taker d w
     → Taker d (step D E e w)
 step-took aToB D E (slot ha hb) w q k t = slot-took (k .inv) ha hb t
 step-took bToA D E (slot ha hb) w q k t = slot-took (exchanged (k .inv)) hb ha t
@@ -78,10 +79,10 @@ step-took bToA D E (atB c) w q k t = near-took (exchanged (k .inv)) c t
 
 run-took : (d : Direction) (D E : ℕ) (es : List Event) (w : World) → ruled d D E es w ≡ true → Kept D E w → Taker d w
     → Taker d (run D E es w)
-unfolding run ruled
+unfolding runBy every
 run-took d D E [] w q k t = t
 run-took d D E (e ∷ es) w q k t =
-    let p = and-both (ruledStep d e w) (ruled d D E es (step D E e w)) q in
+    let p = and-both (ruledStep d e (w .a .host) (w .b .host)) (ruled d D E es (step D E e w)) q in
     run-took d D E es (step D E e w) (p .1) (step-kept D E e w k) (step-took d D E e w (p .0) k t)
 
 pub taker-kept : (d : Direction) (D E : ℕ) (es : List Event) → ruled d D E es resetWorld ≡ true

@@ -32,7 +32,7 @@ use Rattle.end.specs.Registers.{readOf}
 use Rattle.link.specs.Link.{Message, Side, World, messageIn, also, Direction, aToB, bToA, near, far, Access}
 use Rattle.link.specs.Link.{write}
 use Rattle.link.specs.Link.{acceptsNow, messageWritten, sends, arriving, Event, slot, atA, atB, resetWorld, step}
-use Rattle.link.specs.Link.{run, ruled}
+use Rattle.link.specs.Link.{run, every, ruled}
 
 abbrev pub ByRule : (Side → Side → Type 0) → Type 0
 ByRule P =
@@ -93,15 +93,14 @@ abbrev pub atNear : Direction → Access → Event
 atNear aToB c = atA c
 atNear bToA c = atB c
 
-abbrev pub unmarkedStep : ℕ → ℕ → Event → World → Bool
-unmarkedStep D E (slot ha hb) w =
-    noneMarked (arriving E ha (sends (w .b) .sent)) && noneMarked (arriving D hb (sends (w .a) .sent))
-unmarkedStep D E (atA c) w = true
-unmarkedStep D E (atB c) w = true
+-- sa is what a has sent with this slot, sb what b has
+abbrev pub unmarkedStep : ℕ → ℕ → Event → List ℕ → List ℕ → Bool
+unmarkedStep D E (slot ha hb) sa sb = noneMarked (arriving E ha sb) && noneMarked (arriving D hb sa)
+unmarkedStep D E (atA c) sa sb = true
+unmarkedStep D E (atB c) sa sb = true
 
-unfoldable pub unmarked : ℕ → ℕ → List Event → World → Bool
-unmarked D E [] w = true
-unmarked D E (e ∷ es) w = unmarkedStep D E e w && unmarked D E es (step D E e w)
+abbrev pub unmarked : ℕ → ℕ → List Event → World → Bool
+unmarked D E es w = every (λ e w. unmarkedStep D E e (sends (w .a) .sent) (sends (w .b) .sent)) (step D E) es w
 
 unfoldable pub slots : List Event → ℕ
 slots [] = 0

@@ -23,7 +23,8 @@
 --   Harm, harmed  what happens to a symbol on its way: nothing, or a mark, any value from 512 to 1,023; what arrives
 --                 then
 --   arriving, taking, entering   what arrives, one symbol or none; a side after it has taken that; its log
---   Event, step, run   a slot, or one host's call; the world after it; after a list of events
+--   Event, step, run   a slot, or one host's call; the world after it; after a list of events (runBy: by any step)
+--   every         each of a list of events passes a test
 --   ruled d       in a run every call of the host that takes the messages of direction d is by the rule; ruledStep:
 --                 in one event
 -- Assumes nothing.
@@ -284,17 +285,26 @@ step D E (slot ha hb) w = record {
 step D E (atA c) w = record { a = hosted c (w .a); b = w .b }
 step D E (atB c) w = record { a = w .a; b = hosted c (w .b) }
 
-unfoldable pub run : ℕ → ℕ → List Event → World → World
-run D E [] w = w
-run D E (e ∷ es) w = run D E es (step D E e w)
+-- after each of a list of events, by a step
+unfoldable pub runBy : {W : Type 0} → (Event → W → W) → List Event → W → W
+runBy next [] w = w
+runBy next (e ∷ es) w = runBy next es (next e w)
 
-abbrev pub ruledStep : Direction → Event → World → Bool
-ruledStep d (slot ha hb) w = true
-ruledStep aToB (atA c) w = true
-ruledStep aToB (atB c) w = ruledCall c (w .b .host)
-ruledStep bToA (atA c) w = ruledCall c (w .a .host)
-ruledStep bToA (atB c) w = true
+abbrev pub run : ℕ → ℕ → List Event → World → World
+run D E es w = runBy (step D E) es w
 
-unfoldable pub ruled : Direction → ℕ → ℕ → List Event → World → Bool
-ruled d D E [] w = true
-ruled d D E (e ∷ es) w = ruledStep d e w && ruled d D E es (step D E e w)
+-- each of a list of events passes a test of what is there before it
+unfoldable pub every : {W : Type 0} → (Event → W → Bool) → (Event → W → W) → List Event → W → Bool
+every test next [] w = true
+every test next (e ∷ es) w = test e w && every test next es (next e w)
+
+-- a is a's host, b is b's
+abbrev pub ruledStep : Direction → Event → Host → Host → Bool
+ruledStep d (slot ha hb) a b = true
+ruledStep aToB (atA c) a b = true
+ruledStep aToB (atB c) a b = ruledCall c b
+ruledStep bToA (atA c) a b = ruledCall c a
+ruledStep bToA (atB c) a b = true
+
+abbrev pub ruled : Direction → ℕ → ℕ → List Event → World → Bool
+ruled d D E es w = every (λ e w. ruledStep d e (w .a .host) (w .b .host)) (step D E) es w

@@ -9,7 +9,7 @@ use native.Mathlib.Omega.{arith}
 use lib.Dec.{ltb}
 use Rattle.answer.specs.Number.{numberOf}
 use Rattle.end.specs.declared.End.{End}
-use Rattle.end.specs.declared.Got.{Got}
+use Rattle.end.specs.declared.Read.{Read}
 use Rattle.end.specs.declared.Next.{Next}
 use Rattle.end.specs.declared.Sent.{Sent}
 use Rattle.end.specs.declared.Taken.{Taken}
@@ -37,7 +37,7 @@ pub record Refuses (f : End → Result) : Type 0 where
 sent : Sent → ℕ
 sent s = numberOf (s .answer)
 
-got : Got → ℕ
+got : Read → ℕ
 got g = numberOf (g .answer)
 
 took : Taken → ℕ

@@ -18,9 +18,9 @@ use Rattle.end.specs.Registers.{readOf, writeOf}
 use Rattle.recordspec.specs.Record.{frontOf, backOf, bodyOf, recordOf, endOf, limits, exceeds, wrongHead, refusedBy}
 use Rattle.recordspec.specs.Record.{refused}
 use Rattle.record.specs.Calls.{through, resetting}
-use Rattle.link.specs.Link.{Message, bytesOf}
+use Rattle.link.specs.Link.{Message, bytesOf, runBy, every}
 use Rattle.link.specs.Cases.{five}
-use Rattle.recordlink.specs.Joined.{taking, run, ruled}
+use Rattle.recordlink.specs.Joined.{taking}
 use Rattle.recordlink.specs.Restored.{arrived, tookIt, tookAgain, Twice}
 
 -- one message is no beginning of two
@@ -28,7 +28,7 @@ one-less : (l : List Message) → length (five ∷ []) ≡ length (five ∷ five
 one-less l e = omega arith
 
 pub twice : Twice
-unfolding arrived tookIt tookAgain run ruled taking bytesOf through resetting
+unfolding arrived tookIt tookAgain runBy every taking bytesOf through resetting
     frontOf backOf bodyOf recordOf endOf limits exceeds wrongHead refusedBy refused
     tallied above bad readOf writeOf sendOf acked frameStart taken takeOf
     odd xor bits number oddOnes plus times shift fed crc

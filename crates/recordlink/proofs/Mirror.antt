@@ -11,7 +11,6 @@ use mathlib.Core.Bool.{false, _&&_}
 use mathlib.Core.List.{List, [], _∷_}
 use mathlib.Core.Path.{_≡_, refl, sym, ap, _∙_, subst}
 use lib.ListN.{length}
-use Rattle.frame.specs.Frame.{noneMarked}
 use Rattle.end.specs.Good.{bad}
 use Rattle.end.specs.Calls.{Call, after}
 use Rattle.end.specs.Shape.{Shaped}
@@ -25,14 +24,15 @@ use Rattle.record.specs.Calls.{Called, stored}
 use Rattle.record.specs.Runs.{called}
 use Rattle.record.proofs.Through.{through-end, reset-record}
 use Rattle.link.specs.Link as ends
-use Rattle.link.specs.Link.{Side, World, Direction, aToB, bToA, Access, read, write, health, present, Host, Log}
-use Rattle.link.specs.Link.{ruledCall}
+use Rattle.link.specs.Link.{Side, World, Direction, Access, read, write, health, present, Host, Log}
 use Rattle.link.specs.Link.{didRead, readLog, accepts, stores, wrote, sentLog, arriving, entersNow, entering, messageIn}
 use Rattle.link.specs.Link.{Event, slot}
 use Rattle.link.specs.Link.{atA, atB, resetSide, resetWorld}
+use Rattle.link.specs.Link.{runBy, every, ruledStep}
 use Rattle.link.specs.Demand as demand
+use Rattle.link.specs.Demand.{unmarkedStep}
 use Rattle.recordlink.specs.Joined.{Area, Areas, started, bothStarted, done, hosted, sends, taking, step}
-use Rattle.recordlink.specs.Joined.{run, ruledStep, ruled, unmarkedStep, unmarked}
+use Rattle.recordlink.specs.Joined.{run, ruled, unmarked}
 use Rattle.recordlink.specs.Demand.{RecordsOf, Mirrored}
 
 pub record Holds (x : Area) (s : Side) : Type 0 where
@@ -141,43 +141,27 @@ step-hold D E (atB c) h = record { a = h .a; b = hosted-holds (h .b) c }
 
 pub run-hold : (D E : ℕ) (es : List Event) (w : Areas) (v : World) → BothHold w v
     → BothHold (run D E es w) (ends.run D E es v)
-unfolding run ends.run
+unfolding runBy
 run-hold D E [] w v h = h
 run-hold D E (e ∷ es) w v h = run-hold D E es (step D E e w) (ends.step D E e v) (step-hold D E e h)
 
 -- The rule and the marks
 
-call-same : (c : Access) (k l : Host) → k ≡ l → ruledCall c k ≡ ruledCall c l
-call-same c k l e = ap (λ (h : Host). ruledCall c h) e
-
-ruledStep-same : (d : Direction) (e : Event) {w : Areas} {v : World} → BothHold w v
-    → ruledStep d e w ≡ ends.ruledStep d e v
-ruledStep-same aToB (slot ha hb) h = refl
-ruledStep-same bToA (slot ha hb) h = refl
-ruledStep-same aToB (atA c) h = refl
-ruledStep-same aToB (atB c) h = call-same c _ _ (h .b .same .host)
-ruledStep-same bToA (atA c) h = call-same c _ _ (h .a .same .host)
-ruledStep-same bToA (atB c) h = refl
-
 pub ruled-same : (d : Direction) (D E : ℕ) (es : List Event) (w : Areas) (v : World) → BothHold w v
     → ruled d D E es w ≡ ends.ruled d D E es v
-unfolding ruled ends.ruled
+unfolding every
 ruled-same d D E [] w v h = refl
 ruled-same d D E (e ∷ es) w v h =
-    λ j. ruledStep-same d e h j && ruled-same d D E es (step D E e w) (ends.step D E e v) (step-hold D E e h) j
-
-unmarkedStep-same : (D E : ℕ) (e : Event) {w : Areas} {v : World} → BothHold w v
-    → unmarkedStep D E e w ≡ demand.unmarkedStep D E e v
-unmarkedStep-same D E (slot ha hb) h = λ j. noneMarked (arrives (h .b) E ha j) && noneMarked (arrives (h .a) D hb j)
-unmarkedStep-same D E (atA c) h = refl
-unmarkedStep-same D E (atB c) h = refl
+    λ j. ruledStep d e (h .a .same .host j) (h .b .same .host j)
+    && ruled-same d D E es (step D E e w) (ends.step D E e v) (step-hold D E e h) j
 
 pub unmarked-same : (D E : ℕ) (es : List Event) (w : Areas) (v : World) → BothHold w v
     → unmarked D E es w ≡ demand.unmarked D E es v
-unfolding unmarked demand.unmarked
+unfolding every
 unmarked-same D E [] w v h = refl
 unmarked-same D E (e ∷ es) w v h =
-    λ j. unmarkedStep-same D E e h j && unmarked-same D E es (step D E e w) (ends.step D E e v) (step-hold D E e h) j
+    λ j. unmarkedStep D E e (sends-holds (h .a) .same .sent j) (sends-holds (h .b) .same .sent j)
+    && unmarked-same D E es (step D E e w) (ends.step D E e v) (step-hold D E e h) j
 
 pub mirrored : Mirrored
 mirrored p q hp hq D E es w is =

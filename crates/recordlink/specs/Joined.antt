@@ -14,21 +14,20 @@
 --   unmarked      no symbol that arrives at either area is marked
 -- Assumes nothing.
 use Prim.Native.Nat.{ℕ}
-use mathlib.Core.Bool.{Bool, true, _&&_}
+use mathlib.Core.Bool.{Bool}
 use mathlib.Core.List.{List, [], _∷_}
 use lib.Dec.{eqb}
 use Rattle.answer.specs.Number.{numberOf}
-use Rattle.frame.specs.Frame.{noneMarked}
 use Rattle.end.specs.Calls.{Call}
 use Rattle.recordspec.specs.Record.{endOf}
 use Rattle.record.specs.declared.Reply.{Reply}
 use Rattle.record.specs.Calls.{resetting}
 use Rattle.record.specs.Runs.{called}
 use Rattle.link.specs.Link.{Host, Log, resetSide, Direction, aToB, bToA, Access, read, write, health, present}
-use Rattle.link.specs.Link.{ruledCall}
 use Rattle.link.specs.Link.{messageIn, didRead, readLog, accepts, stores, wrote, sentLog, arriving, entersNow, entering}
 use Rattle.link.specs.Link.{Event}
-use Rattle.link.specs.Link.{slot, atA, atB}
+use Rattle.link.specs.Link.{slot, atA, atB, runBy, every, ruledStep}
+use Rattle.link.specs.Demand.{unmarkedStep}
 
 pub record Area : Type 0 where
   pub bytes : List ℕ
@@ -110,27 +109,11 @@ step D E (slot ha hb) w = record {
 step D E (atA c) w = record { a = hosted c (w .a); b = w .b }
 step D E (atB c) w = record { a = w .a; b = hosted c (w .b) }
 
-unfoldable pub run : ℕ → ℕ → List Event → Areas → Areas
-run D E [] w = w
-run D E (e ∷ es) w = run D E es (step D E e w)
+abbrev pub run : ℕ → ℕ → List Event → Areas → Areas
+run D E es w = runBy (step D E) es w
 
-abbrev pub ruledStep : Direction → Event → Areas → Bool
-ruledStep d (slot ha hb) w = true
-ruledStep aToB (atA c) w = true
-ruledStep aToB (atB c) w = ruledCall c (w .b .host)
-ruledStep bToA (atA c) w = ruledCall c (w .a .host)
-ruledStep bToA (atB c) w = true
+abbrev pub ruled : Direction → ℕ → ℕ → List Event → Areas → Bool
+ruled d D E es w = every (λ e w. ruledStep d e (w .a .host) (w .b .host)) (step D E) es w
 
-unfoldable pub ruled : Direction → ℕ → ℕ → List Event → Areas → Bool
-ruled d D E [] w = true
-ruled d D E (e ∷ es) w = ruledStep d e w && ruled d D E es (step D E e w)
-
-abbrev pub unmarkedStep : ℕ → ℕ → Event → Areas → Bool
-unmarkedStep D E (slot ha hb) w =
-    noneMarked (arriving E ha (sends (w .b) .sent)) && noneMarked (arriving D hb (sends (w .a) .sent))
-unmarkedStep D E (atA c) w = true
-unmarkedStep D E (atB c) w = true
-
-unfoldable pub unmarked : ℕ → ℕ → List Event → Areas → Bool
-unmarked D E [] w = true
-unmarked D E (e ∷ es) w = unmarkedStep D E e w && unmarked D E es (step D E e w)
+abbrev pub unmarked : ℕ → ℕ → List Event → Areas → Bool
+unmarked D E es w = every (λ e w. unmarkedStep D E e (sends (w .a) .sent) (sends (w .b) .sent)) (step D E) es w

@@ -6,9 +6,10 @@ use mathlib.Core.Path.{_≡_, refl}
 use Rattle.receiver.specs.Counting.{noCounts}
 use Rattle.end.specs.Good.{resetOf}
 use Rattle.end.specs.Parts.{beside}
+use Rattle.end.specs.Worked.{worked}
 use Rattle.recordspec.specs.Record.{sizeOne, versionOne, sizeTwo, versionTwo, frontOf, backOf, bodyOf, recordOf}
 use Rattle.recordspec.specs.Record.{recordBefore, endOf, without, newer, endBefore}
-use Rattle.recordspec.specs.Cases.{fresh, worked, laid, laidOne, laidTwo}
+use Rattle.recordspec.specs.Cases.{fresh, laid, laidOne, laidTwo}
 use Rattle.recordspec.proofs.Written.{flag-back}
 
 pub fresh-record : recordOf resetOf ≡ fresh

@@ -12,7 +12,7 @@ use Rattle.answer.specs.declared.Answer.the-variants.{NoRegister}
 use Rattle.end.specs.declared.End.{End}
 use Rattle.receiver.specs.declared.Inbox.{Inbox}
 use Rattle.end.specs.declared.Outbox.{Outbox}
-use Rattle.end.specs.declared.Got.{Got}
+use Rattle.end.specs.declared.Read.{Read}
 use Rattle.end.specs.Good.{bad}
 use Rattle.end.specs.Registers.{outside, valueOf, readOf}
 use Rattle.end.specs.Calls.{Call}
@@ -113,7 +113,7 @@ module _ {a b : Side} {ca cb : List Cell} {D E pa pb : ℕ} (i : Inv a b ca cb D
     by-tests r w false = by-host _ _ _
 
   -- a side after a read that gave g
-  abbrev of : ℕ → Got → Side
+  abbrev of : ℕ → Read → Side
   of r g = record {
     end = g .end;
     sent = a .sent;
@@ -132,12 +132,12 @@ module _ {a b : Side} {ca cb : List Cell} {D E pa pb : ℕ} (i : Inv a b ca cb D
       go true h =
           let q : readOf (a .end) r ≡ record { answer = NoRegister; value = 0; end = a .end } =
           rw (i .fit-a .good, h) in
-          subst (λ (g : Got). Keeps (of r g)) (sym q)
+          subst (λ (g : Read). Keeps (of r g)) (sym q)
           (by-tests false false seen (i .fit-a .good) (i .fit-a .shaped) r 0 (receiveSide r))
       go false h =
           let is = read-done (a .end) r (i .fit-a .good) h in
-          subst (λ (g : Got). Keeps (of r g)) (sym is)
+          subst (λ (g : Read). Keeps (of r g)) (sym is)
           (by-tests (eqb r 2317) (eqb r 2308) seen
-          (subst (λ (g : Got). bad (g .end) ≡ false) is (after-good (Call.read r) (a .end) (i .fit-a .good)))
-          (subst (λ (g : Got). Shaped (g .end)) is (after-shaped (Call.read r) (a .end) (i .fit-a .shaped)))
+          (subst (λ (g : Read). bad (g .end) ≡ false) is (after-good (Call.read r) (a .end) (i .fit-a .good)))
+          (subst (λ (g : Read). Shaped (g .end)) is (after-shaped (Call.read r) (a .end) (i .fit-a .shaped)))
           r (valueOf (a .end) r) (receiveSide r))

@@ -18,7 +18,7 @@ use lib.Seq.{take-suc, take-all}
 use borrow.Author.Tests.{eq-eqb, ne-eqb, eqb-true, eqb-false, le-leb, lt-leb, ltb-true}
 use Rattle.answer.specs.declared.Answer.the-variants.{NoRegister}
 use Rattle.receiver.specs.declared.Inbox.{Inbox}
-use Rattle.end.specs.declared.Got.{Got}
+use Rattle.end.specs.declared.Read.{Read}
 use Rattle.laws.specs.Above.{above}
 use Rattle.end.specs.Registers.{outside, pair, status, valueOf, readOf}
 use Rattle.laws.proofs.Bools.{or-cases}
@@ -238,7 +238,7 @@ module _ {a b : Side} {ca cb : List Cell} {D E pa pb : ℕ} (i : Inv a b ca cb D
         one-more x y z f e g h = omega arith
 
   -- after a read that gave g
-  abbrev Reads : ℕ → Got → Type 0
+  abbrev Reads : ℕ → Read → Type 0
   Reads r g = Took (g .end .inbox) (didRead r (g .value) (a .host)) (b .host .accepted) (a .log .entered)
 
   module _ (r : ℕ) (inside : outside r ≡ false) where
@@ -247,7 +247,7 @@ module _ {a b : Side} {ca cb : List Cell} {D E pa pb : ℕ} (i : Inv a b ca cb D
         → Has u (cond s (hostBy v u w) (a .host))
         → Reads r (readOf (a .end) r)
     by s v u w ps pv pu pw h =
-        subst (λ (g : Got). Reads r g) (sym (read-done (a .end) r (i .fit-a .good) inside))
+        subst (λ (g : Read). Reads r g) (sym (read-done (a .end) r (i .fit-a .good) inside))
         (moved ps pv pu pw h)
       where
         moved : {s₂ v₂ u₂ : Bool} {w₂ : ℕ} → s₂ ≡ s → v₂ ≡ v → u₂ ≡ u → w₂ ≡ w
@@ -302,7 +302,7 @@ module _ {a b : Side} {ca cb : List Cell} {D E pa pb : ℕ} (i : Inv a b ca cb D
       go true y p q =
           let is : readOf (a .end) r ≡ record { answer = NoRegister; value = 0; end = a .end } =
           rw (i .fit-a .good, p) in
-          subst (λ (g : Got). Reads r g) (sym is) (rw (side-outside r p) t)
+          subst (λ (g : Read). Reads r g) (sym is) (rw (side-outside r p) t)
       go false false p q = other r p q
       go false true p q =
           or-cases (eqb r 2313) (eqb r (2313 + a .host .stage))

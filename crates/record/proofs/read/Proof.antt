@@ -1,7 +1,7 @@
 -- `read` meets its contract: it is refused, or the call on the end that was read.
 -- Assumes nothing.
 use mathlib.Core.Path.{refl, ap, _∙_}
-use Rattle.end.specs.declared.Got.{Got}
+use Rattle.end.specs.declared.Read.{Read}
 use Rattle.recordspec.specs.Results.{Result, reading}
 use Rattle.recordspec.proofs.Refusing.{good-length}
 use Rattle.record.proofs.Gave.{gave-bad, gave-done}
@@ -9,7 +9,7 @@ use borrow.Author.Needs.{needs}
 use Rattle.record.proofs.read.Statement.{statement}
 use Rattle.record.proofs.read.Tie as tie
 
-abbrev in-shape : Got → Result
+abbrev in-shape : Read → Result
 in-shape s = record { answer = s .answer; value = s .value; end = s .end }
 
 refused-requires : tie.Need-refused-requires

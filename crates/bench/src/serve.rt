@@ -5,7 +5,7 @@ use benchlink::SENT;
 use console::Console;
 ghost use Prim.Native.Nat.{_≤_};
 ghost use lib.ListN.{length};
-ghost use Rattle.console.specs.Ready.{Ready};
+ghost use Rattle.console.specs.Ready.{turnRoom, Ready};
 
 // The link and the console after a line, and whether all is over.
 pub struct After {
@@ -17,7 +17,7 @@ pub struct After {
 // Answers line after line until the input ends. A proved loop has to end, so it counts its turns down from a number
 // that no run uses up.
 pub fn serve(text: &mut [u8], symbols: &mut [u16], out: &mut [u8], sent: &mut [u16; SENT])
-    requires { ⌜ 4128 ≤ length (now out) ⌝ }
+    requires { ⌜ turnRoom ≤ length (now out) ⌝ }
 {
     let mut link = benchlink::start(0, 0);
     let mut console = console::start();

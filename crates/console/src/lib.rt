@@ -11,7 +11,7 @@ use text::print;
 ghost use mathlib.Core.Path.{_≡_};
 ghost use Prim.Native.Nat.{_≤_, _+_};
 ghost use lib.ListN.{length};
-ghost use Rattle.console.specs.Ready.{Asked, Bare, Ready};
+ghost use Rattle.console.specs.Ready.{turnRoom, Asked, Bare, Ready};
 ghost use Rattle.text.specs.Lines.{Holds};
 
 // How many bytes of the input are held: the longest line and its newline.
@@ -86,9 +86,9 @@ pub fn next(text: &mut [u8], out: &mut [u8], console: Console) -> Turn
 
 // Where the output goes on: where a turn's bytes would not fit, the output is handed on and begins anew.
 fn with_room(out: &[u8], at: usize) -> usize
-    requires { ⌜ 4128 ≤ length (now out) ⌝ }
+    requires { ⌜ turnRoom ≤ length (now out) ⌝ }
     requires { ⌜ at ≤ length (now out) ⌝ }
-    ensures { λ r. ⌜ r + 4128 ≤ length (now (out .entry)) ⌝ }
+    ensures { λ r. ⌜ r + turnRoom ≤ length (now (out .entry)) ⌝ }
 {
     if out.len() - at < ROOM {
         io::write_all(STDOUT_FILENO, &out[0..at]);

@@ -6,8 +6,14 @@ pub type Word<'a> = &'a [u8];
 /// What is printed, or why the line could not be read.
 pub type Said = Result<String, &'static str>;
 
+/// The largest number of a line.
+pub const LARGEST: u32 = 0xFFFF;
+
 /// By default it is as before the first line.
 pub trait Console: Default {
+    /// The words after `./bench` that start the proved console of the same commands.
+    const PROVED: &'static [&'static str];
+
     /// There is a first word.
     fn command(&mut self, words: &[Word]) -> Said;
 

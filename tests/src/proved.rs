@@ -1,4 +1,4 @@
-//! Runs the proved program.
+//! Runs the proved programs.
 
 use std::env;
 use std::io::Write;
@@ -6,7 +6,7 @@ use std::path::PathBuf;
 use std::process::{Child, Command, ExitStatus, Output, Stdio};
 use std::thread;
 
-/// Names the program to be tested; a relative path is seen from this package.
+/// Names the program that starts every console to be tested; a relative path is seen from this package.
 const PROGRAM: &str = "SIMHADOL_BENCH";
 const DEFAULT_PROGRAM: &str = "../bench";
 
@@ -20,19 +20,20 @@ fn path() -> PathBuf {
     package().join(env::var_os(PROGRAM).unwrap_or_else(|| DEFAULT_PROGRAM.into()))
 }
 
-/// Starts the program with its input and output in our hands.
-pub fn start() -> Result<Child, String> {
+/// Starts the console that these words name, with its input and output in our hands.
+pub fn start(words: &[&str]) -> Result<Child, String> {
     let path = path();
     Command::new(&path)
+        .args(words)
         .stdin(Stdio::piped())
         .stdout(Stdio::piped())
         .spawn()
         .map_err(|why| format!("the proved program {} cannot be run: {} ({} names it)", path.display(), why, PROGRAM))
 }
 
-/// What the program prints for `input`, and how it ended.
-pub fn run(input: &[u8]) -> Result<(Vec<u8>, ExitStatus), String> {
-    let output = feed(start()?, input)?;
+/// What the console prints for `input`, and how it ended.
+pub fn run(words: &[&str], input: &[u8]) -> Result<(Vec<u8>, ExitStatus), String> {
+    let output = feed(start(words)?, input)?;
     Ok((output.stdout, output.status))
 }
 

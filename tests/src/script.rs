@@ -75,7 +75,7 @@ impl<C: Console> Script<C> {
 
     /// The proved program must print the same, or the first difference is told.
     pub fn compare(&self) -> Result<(), String> {
-        let (printed, status) = proved::run(&self.text)?;
+        let (printed, status) = proved::run(C::PROVED, &self.text)?;
         match first_difference(&self.expected, &printed) {
             None if status.success() => Ok(()),
             None => Err(format!("seed {}: all as expected, but the proved program ended with {}", self.seed, status)),

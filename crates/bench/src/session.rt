@@ -1,12 +1,15 @@
 // A line's answer.
-use benchcommands::Side;
+use benchcommands::call;
+use benchcommands::call::Asked;
 use benchcommands::call::Call;
-use benchcommands::command;
-use benchcommands::command::Command;
+use benchcommands::lists;
 use benchfields::dump;
 use benchfields::set;
 use benchlink::Link;
 use benchlink::SENT;
+use consolecommands::Side;
+use consolecommands::command;
+use consolecommands::command::Command;
 use text::print;
 use text::words::first_word;
 ghost use Prim.Native.Nat.{_≤_};
@@ -31,7 +34,7 @@ pub fn answer(
     requires { ⌜ Room at (now out) ⌝ }
     ensures { λ r. ⌜ r .at ≤ length (now (out .exit)) ⌝ }
 {
-    let first = first_word(line, &command::COMMANDS);
+    let first = first_word(line, &lists::COMMANDS);
     let name = first.name;
     let after = first.after;
     if first.asks {
@@ -56,25 +59,28 @@ fn asked(
     ensures { λ r. ⌜ r .at ≤ length (now (out .exit)) ⌝ }
 {
     match name {
-        command::CHECK..=command::BUILD => {
+        lists::CHECK..=lists::BUILD => {
             let put = benchlists::answered(name, line, from, symbols, out, at);
             Answered { link, at: put }
         }
         _ => {
             let command = command::parsed(name, line, from);
-            perform(command, link, sent, out, at)
+            perform(command, line, from, link, sent, out, at)
         }
     }
 }
 
-// A command is done, and its line printed.
+// A command is done, and its line printed. What it asks of an end stands from a place on.
 fn perform(
     command: Command,
+    line: &[u8],
+    from: usize,
     link: Link,
     sent: &mut [u16; SENT],
     out: &mut [u8],
     at: usize,
 ) -> Answered
+    requires { ⌜ from ≤ length (now line) ⌝ }
     requires { ⌜ Room at (now out) ⌝ }
     ensures { λ r. ⌜ r .at ≤ length (now (out .exit)) ⌝ }
 {
@@ -93,7 +99,7 @@ fn perform(
         }
         Command::Slot(count) => {
             let next = benchlink::after_slots(link, count, sent);
-            let put = slotted(next.slots, out, at);
+            let put = command::slotted(next.slots, out, at);
             Answered {
                 link: next,
                 at: put,
@@ -107,9 +113,24 @@ fn perform(
                 at: put,
             }
         }
-        Command::On(side, call) => called(link, side, call, out, at),
-        Command::Dump(side) => dumped(link, side, out, at),
-        Command::Set(side, field, i, value) => {
+        Command::On(side) => on_end(link, side, line, from, out, at),
+    }
+}
+
+// What is asked of the end of a side, from a place on.
+fn on_end(link: Link, side: Side, line: &[u8], from: usize, out: &mut [u8], at: usize) -> Answered
+    requires { ⌜ from ≤ length (now line) ⌝ }
+    requires { ⌜ Room at (now out) ⌝ }
+    ensures { λ r. ⌜ r .at ≤ length (now (out .exit)) ⌝ }
+{
+    match call::on(line, from) {
+        Asked::Wrong(fault) => {
+            let put = print::fault(out, at, fault);
+            Answered { link, at: put }
+        }
+        Asked::Call(call) => called(link, side, call, out, at),
+        Asked::Dump => dumped(link, side, out, at),
+        Asked::Set(field, i, value) => {
             let next = set_in(link, side, field, i, value);
             let put = print::text(out, at, b"ok\n");
             Answered {
@@ -118,16 +139,6 @@ fn perform(
             }
         }
     }
-}
-
-// The line after slots.
-fn slotted(slots: u64, out: &mut [u8], at: usize) -> usize
-    requires { ⌜ Room at (now out) ⌝ }
-    ensures { λ r. ⌜ r ≤ length (now (out .exit)) ⌝ }
-{
-    let word = print::text(out, at, b"slot ");
-    let put = print::decimal(out, word, slots);
-    print::byte(out, put, b'\n')
 }
 
 // A call on the end of a side.

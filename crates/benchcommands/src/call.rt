@@ -1,20 +1,28 @@
 // What a line asks of an end.
-use crate::Side;
-use crate::command::Command;
 use crate::fields;
+use consolecommands::numbers::Element;
+use consolecommands::numbers::Two;
+use consolecommands::numbers::element_of;
+use consolecommands::numbers::two_numbers;
 use text::fault::Fault;
 use text::numbers::DECIMAL;
 use text::numbers::HEX;
 use text::numbers::MOST;
 use text::numbers::Number;
 use text::numbers::last_number;
-use text::numbers::next_number;
 use text::words::index_of;
 use text::words::is_last;
 use text::words::next;
-use text::words::past_word;
 ghost use Prim.Native.Nat.{_≤_};
 ghost use lib.ListN.{length};
+
+// What was read whole, or what was wrong with it. What set writes is a field's place, the element, and the value.
+pub enum Asked {
+    Wrong(Fault),
+    Call(Call),
+    Dump,
+    Set(usize, usize, u16),
+}
 
 // A call on an end.
 pub enum Call {
@@ -48,8 +56,8 @@ const DUMP: usize = 7;
 
 const SET: usize = 8;
 
-// What is asked of the end of a side, from a place on.
-pub fn on(side: Side, line: &[u8], from: usize) -> Command
+// What is asked of an end, from a place on.
+pub fn on(line: &[u8], from: usize) -> Asked
     requires { ⌜ from ≤ length (now line) ⌝ }
 {
     let word = next(line, from);
@@ -57,70 +65,66 @@ pub fn on(side: Side, line: &[u8], from: usize) -> Command
     let end = word.end;
     let name = index_of(&CALLS, &line[start..end]);
     match name {
-        RESET => bare(Command::On(side, Call::Reset), line, end),
-        SEND => bare(Command::On(side, Call::Send), line, end),
-        TAKE => take(side, line, end),
-        READ => read(side, line, end),
-        WRITE => write(side, line, end),
-        HEALTH => health(side, line, end),
-        PRESENT => bare(Command::On(side, Call::Present), line, end),
-        DUMP => bare(Command::Dump(side), line, end),
-        SET => set(side, line, end),
-        _ => Command::Wrong(Fault::Call),
+        RESET => bare(Asked::Call(Call::Reset), line, end),
+        SEND => bare(Asked::Call(Call::Send), line, end),
+        TAKE => take(line, end),
+        READ => read(line, end),
+        WRITE => write(line, end),
+        HEALTH => health(line, end),
+        PRESENT => bare(Asked::Call(Call::Present), line, end),
+        DUMP => bare(Asked::Dump, line, end),
+        SET => set(line, end),
+        _ => Asked::Wrong(Fault::Call),
     }
 }
 
 // What takes no further word.
-fn bare(command: Command, line: &[u8], from: usize) -> Command
+fn bare(asked: Asked, line: &[u8], from: usize) -> Asked
     requires { ⌜ from ≤ length (now line) ⌝ }
 {
     if is_last(line, from) {
-        return command;
+        return asked;
     }
-    Command::Wrong(Fault::Extra)
+    Asked::Wrong(Fault::Extra)
 }
 
-fn take(side: Side, line: &[u8], from: usize) -> Command
+fn take(line: &[u8], from: usize) -> Asked
     requires { ⌜ from ≤ length (now line) ⌝ }
 {
     match last_number(line, from, HEX, MOST) {
-        Number::Wrong(fault) => Command::Wrong(fault),
-        Number::Value(symbol) => Command::On(side, Call::Take(symbol)),
+        Number::Wrong(fault) => Asked::Wrong(fault),
+        Number::Value(symbol) => Asked::Call(Call::Take(symbol)),
     }
 }
 
-fn read(side: Side, line: &[u8], from: usize) -> Command
+fn read(line: &[u8], from: usize) -> Asked
     requires { ⌜ from ≤ length (now line) ⌝ }
 {
     match last_number(line, from, DECIMAL, MOST) {
-        Number::Wrong(fault) => Command::Wrong(fault),
-        Number::Value(register) => Command::On(side, Call::Read(register)),
+        Number::Wrong(fault) => Asked::Wrong(fault),
+        Number::Value(register) => Asked::Call(Call::Read(register)),
     }
 }
 
-fn write(side: Side, line: &[u8], from: usize) -> Command
+fn write(line: &[u8], from: usize) -> Asked
     requires { ⌜ from ≤ length (now line) ⌝ }
 {
-    let after = past_word(line, from);
-    match next_number(line, from, DECIMAL, MOST) {
-        Number::Wrong(fault) => Command::Wrong(fault),
-        Number::Value(register) => match last_number(line, after, HEX, MOST) {
-            Number::Wrong(fault) => Command::Wrong(fault),
-            Number::Value(value) => Command::On(side, Call::Write(register, value)),
-        },
+    match two_numbers(line, from, MOST, HEX) {
+        Two::Wrong(fault) => Asked::Wrong(fault),
+        Two::Values(register, value) => Asked::Call(Call::Write(register, value)),
     }
 }
 
-fn health(side: Side, line: &[u8], from: usize) -> Command
+fn health(line: &[u8], from: usize) -> Asked
     requires { ⌜ from ≤ length (now line) ⌝ }
 {
     match last_number(line, from, HEX, MOST) {
-        Number::Wrong(fault) => Command::Wrong(fault),
-        Number::Value(health) => Command::On(side, Call::Health(health)),
+        Number::Wrong(fault) => Asked::Wrong(fault),
+        Number::Value(health) => Asked::Call(Call::Health(health)),
     }
 }
 
-fn set(side: Side, line: &[u8], from: usize) -> Command
+fn set(line: &[u8], from: usize) -> Asked
     requires { ⌜ from ≤ length (now line) ⌝ }
 {
     let word = next(line, from);
@@ -128,31 +132,12 @@ fn set(side: Side, line: &[u8], from: usize) -> Command
     let end = word.end;
     let field = fields::field_of(&line[start..end]);
     if field >= fields::FIELDS {
-        return Command::Wrong(Fault::Field);
+        return Asked::Wrong(Fault::Field);
     }
     let count = fields::elements(field);
-    if count == 1 {
-        return set_element(side, field, 0, line, end);
-    }
-    let after = past_word(line, end);
-    match next_number(line, end, DECIMAL, MOST) {
-        Number::Wrong(fault) => Command::Wrong(fault),
-        Number::Value(i) => {
-            let place = i as usize;
-            if place < count {
-                return set_element(side, field, place, line, after);
-            }
-            Command::Wrong(Fault::TooLarge)
-        }
-    }
-}
-
-fn set_element(side: Side, field: usize, i: usize, line: &[u8], from: usize) -> Command
-    requires { ⌜ from ≤ length (now line) ⌝ }
-{
     let most = fields::largest(field);
-    match last_number(line, from, HEX, most) {
-        Number::Wrong(fault) => Command::Wrong(fault),
-        Number::Value(value) => Command::Set(side, field, i, value),
+    match element_of(count, most, line, end) {
+        Element::Wrong(fault) => Asked::Wrong(fault),
+        Element::At(i, value) => Asked::Set(field, i, value),
     }
 }

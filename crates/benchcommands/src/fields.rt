@@ -81,22 +81,35 @@ pub const PRESENCE_LEFT: usize = 32;
 
 pub const FIELDS: usize = 33;
 
+// How many elements all fields have together.
+pub const VALUES: usize = 69;
+
 // The field of a name; FIELDS or more where there is none.
 pub fn field_of(word: &[u8]) -> usize {
     index_of(&NAMES, word)
 }
 
-// How many elements a field has: 1 where it is no array.
-pub fn elements(field: usize) -> usize
-    ensures { λ r. ⌜ (1 ≤ r) × (r ≤ 12) ⌝ }
-{
-    match field {
-        TX => 12,
-        BYTES => 8,
-        RX => 12,
-        RX_BYTES => 8,
-        _ => 1,
+// How many elements each field has, in the order of the names: 1 where it is no array.
+pub fn counts() -> [u8; FIELDS] {
+    let mut each = [1u8; FIELDS];
+    each[TX] = 12;
+    each[BYTES] = 8;
+    each[RX] = 12;
+    each[RX_BYTES] = 8;
+    each
+}
+
+// How many elements a field has; 1 where there is no such field.
+pub fn elements(field: usize) -> usize {
+    let each = counts();
+    if field < FIELDS {
+        return wide(each[field]);
     }
+    1
+}
+
+fn wide(count: u8) -> usize {
+    count as usize
 }
 
 // The largest value of a field: a symbol, a count or what is left of presence sixteen bits, a bool 1, any other a byte.

@@ -1,10 +1,4 @@
 // What a line asks of the bench: its commands, the calls on an end, and the fields that dump and set name.
 pub mod call;
-pub mod command;
 pub mod fields;
-
-// Of two ends joined, one.
-pub enum Side {
-    A,
-    B,
-}
+pub mod lists;

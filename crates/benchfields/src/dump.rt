@@ -1,5 +1,6 @@
 // The whole end, as dump prints it.
 use benchcommands::fields;
+use consolecommands::dump;
 use end::End;
 use end::Outbox;
 use end::Sender;
@@ -7,65 +8,53 @@ use receiver::Collector;
 use receiver::Counts;
 use receiver::Heard;
 use receiver::Inbox;
-use text::print;
-use text::words::next;
 ghost use Prim.Native.Nat.{_≤_, _+_};
 ghost use lib.ListN.{length};
 ghost use Rattle.console.specs.Ready.{Room};
+
+// An element of a field.
+struct Place {
+    field: usize,
+    i: usize,
+}
 
 // The whole end, name=value for each field.
 pub fn dumped(end: End, out: &mut [u8], at: usize) -> usize
     requires { ⌜ Room at (now out) ⌝ }
     ensures { λ r. ⌜ r ≤ length (now (out .exit)) ⌝ }
 {
-    dump_by(&fields::NAMES, end, out, at)
+    let counts = fields::counts();
+    let values = values(end);
+    dump::dumped(&fields::NAMES, &counts, &values, out, at)
 }
 
-// The same, by the fields' names.
-fn dump_by(names: &[u8], end: End, out: &mut [u8], at: usize) -> usize
-    requires { ⌜ length (now names) ≤ 1024 ⌝ }
-    requires { ⌜ Room at (now out) ⌝ }
-    ensures { λ r. ⌜ r ≤ length (now (out .exit)) ⌝ }
-{
-    let mut put = at;
-    let mut from = 0;
-    let mut field = 0;
-    while field < fields::FIELDS {
-        let name = next(names, from);
-        let start = name.start;
-        let stop = name.end;
-        let shown = dump_field(end, field, &names[start..stop], out, put);
-        field += 1;
-        put = print::closing(out, shown, field == fields::FIELDS);
-        from = stop;
+// The values of all fields, in the order of their names.
+fn values(end: End) -> [u16; fields::VALUES] {
+    let mut values = [0u16; fields::VALUES];
+    let mut place = Place { field: 0, i: 0 };
+    let mut at = 0;
+    while at < fields::VALUES {
+        values[at] = value(end, place.field, place.i);
+        place = after(place);
+        at += 1;
     }
-    put
+    values
 }
 
-// A field's name and value.
-fn dump_field(end: End, field: usize, name: &[u8], out: &mut [u8], at: usize) -> usize
-    requires { ⌜ at + length (now name) + 61 ≤ length (now out) ⌝ }
-    ensures { λ r. ⌜ r ≤ at + length (now (name .entry)) + 61 ⌝ }
+// The next element: of the same field, or the first one of the next.
+fn after(place: Place) -> Place
+    requires { ⌜ (place .field ≤ 69) × (place .i ≤ 69) ⌝ }
+    ensures { λ r. ⌜ (r .field ≤ place .field + 1) × (r .i ≤ place .i + 1) ⌝ }
 {
-    let named = print::text(out, at, name);
-    let equals = print::byte(out, named, b'=');
-    values(end, field, out, equals)
-}
-
-// A field's elements, joined by commas.
-fn values(end: End, field: usize, out: &mut [u8], at: usize) -> usize
-    requires { ⌜ at + 60 ≤ length (now out) ⌝ }
-    ensures { λ r. ⌜ r ≤ at + 60 ⌝ }
-{
-    let count = fields::elements(field);
-    let mut put = print::short_hex(out, at, value(end, field, 0));
-    let mut i = 1;
-    while i < count {
-        let comma = print::byte(out, put, b',');
-        put = print::short_hex(out, comma, value(end, field, i));
-        i += 1;
+    let field = place.field;
+    let next = place.i + 1;
+    if next < fields::elements(field) {
+        return Place { field, i: next };
     }
-    put
+    Place {
+        field: field + 1,
+        i: 0,
+    }
 }
 
 // Element i of a field, as a number. The element is one of the field's; a remainder spares each caller showing it.

@@ -1,5 +1,8 @@
 // Two ends and the two lines between them.
-use benchcommands::Side;
+use consolecommands::Side;
+use consolecommands::line;
+use consolecommands::line::Arrival;
+use consolecommands::line::Line;
 use end::End;
 ghost use Prim.Native.Nat.{_≤_, _<_};
 
@@ -7,12 +10,6 @@ ghost use Prim.Native.Nat.{_≤_, _<_};
 const KEPT: usize = 8192;
 // What both ends sent: a first, then b.
 pub const SENT: usize = 16384;
-
-// A line: what arrives was sent `delay` slots ago, and the next `marks` symbols that arrive are marked.
-pub struct Line {
-    pub delay: u64,
-    pub marks: u16,
-}
 
 // The ends, the lines by where they lead, and how many slots there were since the link was made.
 pub struct Link {
@@ -27,21 +24,14 @@ pub struct Link {
 pub fn start(to_b: u16, to_a: u16) -> Link {
     let a = End::reset();
     let b = End::reset();
-    let line_a = empty_line(to_a);
-    let line_b = empty_line(to_b);
+    let line_a = line::fresh(to_a);
+    let line_b = line::fresh(to_b);
     Link {
         a,
         b,
         to_a: line_a,
         to_b: line_b,
         slots: 0,
-    }
-}
-
-fn empty_line(delay: u16) -> Line {
-    Line {
-        delay: delay as u64,
-        marks: 0,
     }
 }
 
@@ -94,8 +84,8 @@ fn slot(link: Link, sent: &mut [u16; SENT]) -> Link {
     let now = link.slots;
     let a = link.a;
     let b = link.b;
-    let to_a = link.to_a;
-    let to_b = link.to_b;
+    let line_a = link.to_a;
+    let line_b = link.to_b;
     let from_a = a.send();
     let from_b = b.send();
     let here = place(now);
@@ -103,17 +93,15 @@ fn slot(link: Link, sent: &mut [u16; SENT]) -> Link {
     sent[here + KEPT] = from_b.symbol;
     let sender_a = from_a.end;
     let sender_b = from_b.end;
-    let at_a = arrive(sender_a, to_a, now, KEPT, sent);
-    let at_b = arrive(sender_b, to_b, now, 0, sent);
-    let next_a = at_a.end;
-    let next_b = at_b.end;
-    let line_a = at_a.line;
-    let line_b = at_b.line;
+    let next_a = arrive(sender_a, line_a, now, KEPT, sent);
+    let next_b = arrive(sender_b, line_b, now, 0, sent);
+    let left_a = line::after(line_a, now);
+    let left_b = line::after(line_b, now);
     Link {
         a: next_a,
         b: next_b,
-        to_a: line_a,
-        to_b: line_b,
+        to_a: left_a,
+        to_b: left_b,
         slots: std::num::wrapping_add_u64(now, 1),
     }
 }
@@ -125,36 +113,25 @@ fn place(slot: u64) -> usize
     (slot % 8192) as usize
 }
 
-// An end, and the line that leads to it.
-struct Arrival {
-    end: End,
-    line: Line,
-}
-
 // An end takes what arrives in this slot, if anything does; what its line carries is kept from a place on. A mark keeps
-// the symbol's nine bits, and is used up by a take that is refused too.
-fn arrive(end: End, line: Line, now: u64, from: usize, sent: &[u16; SENT]) -> Arrival
+// the symbol's nine bits.
+fn arrive(end: End, line: Line, now: u64, from: usize, sent: &[u16; SENT]) -> End
     requires { ⌜ from ≤ 8192 ⌝ }
 {
-    let delay = line.delay;
-    let marks = line.marks;
-    if now < delay {
-        return Arrival { end, line };
+    match line::arrival_of(line, now) {
+        Arrival::Nothing => end,
+        Arrival::Sound(slot) => {
+            let then = from + place(slot);
+            taken(end, sent[then])
+        }
+        Arrival::Marked(slot) => {
+            let then = from + place(slot);
+            taken(end, sent[then] % 512 + 512)
+        }
     }
-    let then = from + place(now - delay);
-    let symbol = sent[then];
-    if marks > 0 {
-        let next = end.take(symbol % 512 + 512);
-        let after = next.end;
-        return Arrival {
-            end: after,
-            line: Line {
-                delay,
-                marks: marks - 1,
-            },
-        };
-    }
+}
+
+fn taken(end: End, symbol: u16) -> End {
     let next = end.take(symbol);
-    let after = next.end;
-    Arrival { end: after, line }
+    next.end
 }

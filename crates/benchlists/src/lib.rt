@@ -1,8 +1,8 @@
 // The commands on lists: check, find, crc and build.
-use benchcommands::command::BUILD;
-use benchcommands::command::CHECK;
-use benchcommands::command::CRC;
-use benchcommands::command::FIND;
+use benchcommands::lists::BUILD;
+use benchcommands::lists::CHECK;
+use benchcommands::lists::CRC;
+use benchcommands::lists::FIND;
 use frame::reason::Reason;
 use text::fault::Fault;
 use text::lists::Listed;

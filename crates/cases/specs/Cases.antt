@@ -21,6 +21,7 @@ use Rattle.end.specs.declared.End.{End}
 use Rattle.end.specs.Good.{resetOf}
 use Rattle.end.specs.Taking.{takeOf}
 use Rattle.end.specs.Registers.{readOf, writeOf}
+use Rattle.joined.specs.Joined.{slot, atA}
 use Rattle.link.specs.Link.{Access, Harm, Event, resetWorld, run}
 
 pub data Case : Type 0 where
@@ -61,13 +62,13 @@ abbrev pub take : ℕ → End → List ℕ
 take s e = numberOf (takeOf e s .answer) ∷ []
 
 abbrev pub control : (v : ℕ) → v < 65536 → List Event
-control v h = Event.atA (Access.write 2308 v h) ∷ []
+control v h = atA (Access.write 2308 v h) ∷ []
 
 abbrev pub report : List Event
-report = Event.atA (Access.write 2309 0x2211 (omega arith)) ∷ control 0x8500 (omega arith)
+report = atA (Access.write 2309 0x2211 (omega arith)) ∷ control 0x8500 (omega arith)
 
 abbrev pub slots : ℕ → List Event
-slots n = replicate n (Event.slot Harm.sound Harm.sound)
+slots n = replicate n (slot Harm.sound Harm.sound)
 
 -- P1's frame, and the first nine symbols of P2 to P4
 abbrev pub first : List ℕ

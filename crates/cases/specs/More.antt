@@ -15,6 +15,7 @@ use Rattle.end.specs.declared.End.{End}
 use Rattle.end.specs.Good.{resetOf}
 use Rattle.end.specs.Taking.{takeOf}
 use Rattle.end.specs.Registers.{writeOf}
+use Rattle.joined.specs.Joined.{atA, atB}
 use Rattle.link.specs.Link.{Access, Event, resetWorld, run}
 use Rattle.cases.specs.Cases.{Row, row, near, far, sent, read, write, control, report, slots}
 
@@ -26,12 +27,12 @@ sentBack es = reverse (run 0 0 es resetWorld .b .sent)
 
 -- the near end's health is 3 and its PingTx 1, the far end's health 2
 abbrev pub pinged : List Event
-pinged = control 0x0004 (omega arith) ++ (Event.atA (Access.health 3) ∷ Event.atB (Access.health 2) ∷ [])
+pinged = control 0x0004 (omega arith) ++ (atA (Access.health 3) ∷ atB (Access.health 2) ∷ [])
 
 -- P7's message is acknowledged and read out, and a second one as well
 abbrev pub twice : List Event
 twice =
-    report ++ (slots 25 ++ (Event.atB (Access.read 2317) ∷ control 0x8500 (omega arith) ++ slots 36))
+    report ++ (slots 25 ++ (atB (Access.read 2317) ∷ control 0x8500 (omega arith) ++ slots 36))
 
 -- an end takes symbol after symbol
 unfoldable pub taking : List ℕ → End → End
@@ -59,7 +60,7 @@ more Ping =
     ∷ []
 more Toggles =
     row (read 2308 (near twice)) (0 ∷ 0x3500 ∷ [])
-    ∷ row (read 2308 (near (twice ++ (Event.atA (Access.read 2308) ∷ [])))) (0 ∷ 0x1500 ∷ [])
+    ∷ row (read 2308 (near (twice ++ (atA (Access.read 2308) ∷ [])))) (0 ∷ 0x1500 ∷ [])
     ∷ []
 more Settling =
     row (drop 37 (sentBack (report ++ slots 38))) (0x020 ∷ [])

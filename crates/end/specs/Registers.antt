@@ -15,6 +15,7 @@ use lib.ListN.{getD, set}
 use Rattle.answer.specs.declared.Answer.the-variants.{Done, BadEnd, NoRegister, ReadOnly, ReadOnlyBits, Blocked}
 use Rattle.answer.specs.declared.Answer.the-variants.{BadHealth}
 use Rattle.crc.specs.Bits.{odd}
+use Rattle.weights.specs.Weights.{bit}
 use Rattle.end.specs.declared.End.{End}
 use Rattle.end.specs.declared.Outbox.{Outbox}
 use Rattle.end.specs.declared.Read.{Read}
@@ -23,7 +24,6 @@ use Rattle.end.specs.Good.{bad}
 use Rattle.end.specs.Parts.{withSender, withOutbox, withInbox, withHealthToSend, withPending, withReceived}
 use Rattle.end.specs.Parts.{withNumber}
 use Rattle.end.specs.Parts.{withPing, withBytes, withFull}
-use Rattle.end.specs.Sending.{bit}
 
 abbrev pub outside : ℕ → Bool
 outside r = ltb r 2308 || ltb 2317 r

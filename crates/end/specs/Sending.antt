@@ -1,5 +1,4 @@
 -- Document 01, "Sending, one symbol a slot".
---   bit b w          w where b is set, else 0: a bit of weight w
 --   acked e          step 1's test: the last accepted frame acknowledged what is in the sender
 --   ackedSender, ackedOutbox, stepOne   step 1, where its test gave a, but for Valid, which stands in the frame
 --   loads e          step 3's test: a message is pending and the sender is ready
@@ -18,6 +17,7 @@ use lib.ListN.{getD, take, drop}
 use Rattle.answer.specs.declared.Answer.the-variants.{Done, BadEnd}
 use Rattle.crc.specs.Bits.{odd}
 use Rattle.frame.specs.Frame.{build, dataOf}
+use Rattle.weights.specs.Weights.{bit}
 use Rattle.end.specs.declared.End.{End}
 use Rattle.end.specs.declared.Outbox.{Outbox}
 use Rattle.end.specs.declared.Sender.{Sender}
@@ -25,9 +25,6 @@ use Rattle.end.specs.declared.Sent.{Sent}
 use Rattle.end.specs.Good.{bad}
 use Rattle.end.specs.Parts.{withSender, withOutbox, atPosition, withSymbols, withToggle, withReady, withLoaded}
 use Rattle.end.specs.Parts.{withPending, withRegister, withReceived, withConfirmed}
-
-abbrev pub bit : Bool → ℕ → ℕ
-bit b w = cond b w 0
 
 unfoldable pub acked : End → Bool
 acked e = e .heard .ack && Bool·beq (e .heard .togack) (e .sender .toggle)

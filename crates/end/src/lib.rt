@@ -8,7 +8,6 @@ mod reading;
 mod registers;
 mod sending;
 mod taking;
-mod weights;
 mod writing;
 
 use answer::Answer;

@@ -2,10 +2,10 @@
 use crate::End;
 use crate::Sent;
 use crate::good::bad;
-use crate::weights::bit;
-use crate::weights::wide;
 use answer::Answer;
 use receiver::message::message_of;
+use weights::bit;
+use weights::wide;
 ghost use mathlib.Core.Path.{_≡_};
 ghost use mathlib.Core.Bool.{true, false, cond};
 ghost use Prim.Native.Nat.{_≤_};

@@ -22,8 +22,8 @@ use Rattle.end.specs.Sending.{sendOf}
 use Rattle.end.specs.Taking.{takeOf}
 use Rattle.end.specs.Registers.{outside, readOnly, readOnlyBits, blocked, readOf, writeOf, healthOf}
 use Rattle.endlaws.specs.Rows.{Met, Outside, Received, SetsReadOnly, Pending}
-use Rattle.laws.proofs.Decide.{decides-iff, hit, skip, pass, never}
-use Rattle.endlaws.proofs.Tested.{met, outside-row, received-row, read-only-row, pending-row, above-row}
+use Rattle.laws.proofs.Decide.{decides-iff, above-row, hit, skip, pass, never}
+use Rattle.endlaws.proofs.Tested.{met, outside-row, received-row, read-only-row, pending-row}
 
 pub bad-met : (e : End) → (bad e ≡ true) ↔ Met e
 bad-met e = decides-iff (met e)

@@ -1,16 +1,16 @@
 -- The tests of the definitions decide the rows of the answer table.
---   met, outside-row, received-row, read-only-row, pending-row   rows 1, 2, 3, 10 and 4
---   above-row                                                    rows 5 and 6: a number above a limit
+--   met, outside-row, received-row, read-only-row, pending-row   rows 1, 2, 3, 10 and 4 (for rows 5 and 6, a number
+--                                                                above a limit: above-row of crate laws)
 -- Assumes nothing.
 use Prim.Native.Nat.{ℕ, _+_, _<_, _≤_, _/_, _%_}
 use mathlib.Core.Bool.{Bool, true, false, not, _||_, true≢false}
 use mathlib.Core.List.{List}
 use mathlib.Core.Logic.{_⊎_, inl, inr, ⊎-elim}
-use mathlib.Core.Path.{_≡_, refl, sym, _∙_, subst}
+use mathlib.Core.Path.{_≡_, refl, subst}
 use native.Mathlib.Omega.{arith}
 use lib.Dec.{eqb, ltb}
 use lib.ListN.{getD}
-use borrow.Author.Tests.{ltb-true, ltb-false, leb-true, leb-false, eqb-true, eqb-false}
+use borrow.Author.Tests.{ltb-true, leb-true, leb-false, eqb-true, eqb-false}
 use Rattle.crc.specs.Bits.{odd}
 use Rattle.end.specs.declared.End.{End}
 use Rattle.laws.specs.Above.{above}
@@ -19,7 +19,7 @@ use Rattle.end.specs.Registers.{outside, readOnly, readOnlyBits, blocked}
 use Rattle.endlaws.specs.Rows.{Met, Outside, Received, ReadOnlyBit, SetsReadOnly, Pending}
 use Rattle.laws.proofs.AboveLaws.{above-getD, above-some}
 use Rattle.laws.proofs.Bools.{or-cases}
-use Rattle.laws.proofs.Decide.{Decides, decides-or, decides-and}
+use Rattle.laws.proofs.Decide.{Decides, decides-or, decides-and, above-not, above-row, eq-row, set-row}
 use Rattle.endlaws.proofs.Goods.{good}
 use Rattle.laws.proofs.Stretch.{Bit, stretch-row}
 
@@ -40,9 +40,6 @@ met-holds e =
     (or-cases _ _ (λ t. Met.number (ltb-true _ _ t))
     (or-cases _ _ (λ t. Met.received (ltb-true _ _ t)) (λ t. Met.presence (ltb-true _ _ t))))))))))
 
-above-not : {a b : ℕ} → a < b → b ≤ a → ⊥
-above-not h k = omega arith
-
 met-fails : (e : End) → bad e ≡ false → ¬ Met e
 met-fails e h (Met.position k) = above-not k (good e h .position)
 met-fails e h (Met.count k) = above-not k (good e h .count)
@@ -58,9 +55,6 @@ met-fails e h (Met.presence k) = above-not k (good e h .presence)
 pub met : (e : End) → Decides (bad e) (Met e)
 met e = record { holds = met-holds e; fails = met-fails e }
 
-pub above-row : (a b : ℕ) → Decides (ltb a b) (a < b)
-above-row a b = record { holds = ltb-true a b; fails = λ t k. above-not k (ltb-false a b t) }
-
 pub outside-row : (r : ℕ) → Decides (outside r) (Outside r)
 outside-row r = decides-or (ltb r 2308) (ltb 2317 r) (above-row r 2308) (above-row 2317 r)
 
@@ -75,9 +69,6 @@ received-row r h = record {
   holds = λ t. (omega (arith, leb-true 2313 r t), within r h .1);
   fails = λ t k. above-not (leb-false 2313 r t) (k .0);
 }
-
-eq-row : (a b : ℕ) → Decides (eqb a b) (a ≡ b)
-eq-row a b = record { holds = eqb-true a b; fails = eqb-false a b }
 
 -- bits 14:12, bits 7:3 and bits 1:0
 abbrev Stretches : ℕ → Type 0
@@ -143,5 +134,5 @@ blocked-row r v false h w n = record {
 pub pending-row : (e : End) (r v : ℕ) → ¬ Outside r → ¬ Received r → Decides (blocked e r v) (Pending e r v)
 pending-row e r v h k =
     decides-and (e .outbox .pending) (not (eqb r 2308) || odd (v / 32768))
-    (record { holds = λ t. t; fails = λ t u. true≢false (sym u ∙ t) })
+    (set-row (e .outbox .pending))
     (blocked-row r v (eqb r 2308) refl (within r h) k)

@@ -5,7 +5,7 @@
 --   fill-map, fill-map-end     the first i elements and what is to come, f of each element left of l, are the whole
 --   fill-copy, fill-copy-end   the same of l itself
 --   eight           a list of eight, listed
---   below-four      a fact of each number below four
+--   below-four, below-eight   a fact of each number below four, below eight
 -- Assumes nothing.
 use Prim.Native.Nat.{ℕ, zero, suc, _+_, _≤_, _<_}
 use native.Mathlib.Numerals.{add-one}
@@ -90,3 +90,11 @@ below-four P a b c d (suc zero) h = b
 below-four P a b c d (suc (suc zero)) h = c
 below-four P a b c d (suc (suc (suc zero))) h = d
 below-four P a b c d (suc (suc (suc (suc i)))) h = absurd (omega arith)
+
+pub below-eight : (P : ℕ → Type 0) → P 0 → P 1 → P 2 → P 3 → P 4 → P 5 → P 6 → P 7 → (i : ℕ) → i < 8 → P i
+below-eight P a b c d e f g h zero l = a
+below-eight P a b c d e f g h (suc zero) l = b
+below-eight P a b c d e f g h (suc (suc zero)) l = c
+below-eight P a b c d e f g h (suc (suc (suc zero))) l = d
+below-eight P a b c d e f g h (suc (suc (suc (suc i)))) l =
+    below-four (λ (j : ℕ). P (suc (suc (suc (suc j))))) e f g h i (omega arith)

@@ -168,7 +168,7 @@ by-rule P f d D E es q w is =
 
 pub nothing-lost : NothingLost
 nothing-lost =
-    by-rule (λ near far. InTurn (near .host .accepted) (far .host .taken))
+    by-rule (λ near far. InTurn mostHeld (near .host .accepted) (far .host .taken))
     (λ a b t ca cb D E pa pb v. record { rest = held a b; whole = held-there v t; few = few v })
 
 pub held-where : HeldThere

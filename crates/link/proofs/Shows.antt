@@ -30,7 +30,7 @@ use Rattle.link.specs.Link.{Side, World, resetWorld, Direction, aToB, bT
 use Rattle.link.specs.Link.{present, hosted, sends, taking, Event, slot, atA, atB, step, run, runBy}
 use Rattle.link.specs.Demand.{controlValue, bit13, bit12}
 use Rattle.link.specs.Acknowledged.{Shown, SeenByHosts}
-use Rattle.link.proofs.Line.Words.{bit-num, odd-is}
+use Rattle.weights.proofs.Weighed.{bit-num, odd-is}
 use Rattle.link.proofs.Line.{Cell}
 use Rattle.link.proofs.Line.Sent.{sentAs, sends-as}
 use Rattle.link.proofs.Invariant.{Inv, exchanged}

@@ -22,8 +22,8 @@ use lib.ListN.{take, drop, replicate}
 use Rattle.end.specs.Registers.{readOf}
 use Rattle.end.specs.Good.{resetOf}
 use Rattle.end.specs.Parts.{withOutbox, withBytes}
-use Rattle.link.specs.Link.{Message, Side, World, resetSide, resetWorld, aToB, bToA, read, write, withHost}
-use Rattle.link.specs.Link.{hosted}
+use Rattle.link.specs.Link.{Message, Side, World, resetSide, resetWorld, aToB, bToA, Access, read, write}
+use Rattle.link.specs.Link.{withHost, hosted}
 use Rattle.link.specs.Link.{health, present, Harm, sound, mark, Event, slot, atA, atB, run, ruled}
 use Rattle.link.specs.Demand.{Idle, unmarked, slots, bound, controlValue, Landed}
 use Rattle.link.specs.Rule.{gave, Takes}
@@ -99,7 +99,7 @@ pub record Cases : Type 0 where
   pub marked-at-a : unmarked 0 0 (slot low sound ∷ []) resetWorld ≡ false
   pub marked-at-b : unmarked 0 0 (slot sound high ∷ []) resetWorld ≡ false
   pub early-mark : unmarked 1 1 (slot low high ∷ []) resetWorld ≡ true
-  pub early-counts : slots (slot low high ∷ []) ≡ 1
+  pub early-counts : slots {C = Access} (slot low high ∷ []) ≡ 1
   pub calls-unmarked : unmarked 0 0 (writes ∷ (others ++ quiet 1)) resetWorld ≡ true
   -- step 1 acts on the acknowledgement in slot 24
   pub not-acknowledged : later 24 0 .a .log .ackCount ≡ 0

@@ -2,23 +2,21 @@
 --   ByRule        true after every run in which the host that takes the messages keeps the rule, both ways
 --   Always        true after every run, both ways; no rule is asked of any host
 --   mostHeld      how many accepted messages may be not taken yet
---   InTurn        the messages taken are the first so many of those accepted, and at most three fewer
---   NothingLost   the first part of demand 3: it speaks of the hosts' lists alone
+--   NothingLost   the first part of demand 3: the messages taken are the first so many of those accepted; it speaks of
+--                 the hosts' lists alone
 --   pendingIn, senderHolds, registerHolds   the three named places, each with one message or none; messageOut and
 --                 messageSent: the messages in the transmit registers and in the frame being sent
 --   held          what the three hold, the oldest message first
 --   HeldThere     accepted = taken + held: where those are that were not taken yet
 --   Idle          nothing is pending, nothing is unacknowledged, the far register is empty
---   atNear        a call of the near side's host
 --   unmarked      no symbol that arrives at either end is marked; unmarkedStep: in one event
---   slots         how many slots a list of events has
 --   bound D E     58 + D + E
 --   controlValue, bit13, bit12   what a host would read in 3.2308: the value, Received, the received toggle
 --   Landed        message n of the near side has entered the far register, is acknowledged, and its host can see it
 --   Delivered     the second part of demand 3; DeliveredIn: the same with any number of slots
 -- Acknowledged.antt has what a host sees of acknowledgements, LogFacts.antt what else is true of the log, Tight.antt
 -- that no number here can be smaller. Assumes nothing.
-use Prim.Native.Nat.{ℕ, suc, _+_, _/_, _≤_, _<_}
+use Prim.Native.Nat.{ℕ, _+_, _/_, _≤_, _<_}
 use mathlib.Core.Bool.{Bool, true, false, _&&_}
 use mathlib.Core.List.{List, [], _∷_, _++_}
 use mathlib.Core.Path.{_≡_}
@@ -29,7 +27,9 @@ use Rattle.frame.specs.Frame.{noneMarked}
 use Rattle.end.specs.declared.End.{End}
 use Rattle.end.specs.Sending.{oldNumber, oldBytes}
 use Rattle.end.specs.Registers.{readOf}
-use Rattle.link.specs.Link.{Message, Side, World, messageIn, also, Direction, aToB, bToA, near, far, Access}
+pub use Rattle.joined.specs.Joined.{InTurn, atNear}
+unfoldable pub use Rattle.joined.specs.Joined.{slots}
+use Rattle.link.specs.Link.{Message, Side, World, messageIn, also, Direction, near, far}
 use Rattle.link.specs.Link.{write}
 use Rattle.link.specs.Link.{acceptsNow, messageWritten, sends, arriving, Event, slot, atA, atB, resetWorld, step}
 use Rattle.link.specs.Link.{run, every, ruled}
@@ -48,13 +48,8 @@ Always P =
 abbrev pub mostHeld : ℕ
 mostHeld = 3
 
-pub record InTurn (accepted taken : List Message) : Type 0 where
-  pub rest : List Message
-  pub whole : accepted ≡ taken ++ rest
-  pub few : length rest ≤ mostHeld
-
 abbrev pub NothingLost : Type 0
-NothingLost = ByRule (λ near far. InTurn (near .host .accepted) (far .host .taken))
+NothingLost = ByRule (λ near far. InTurn mostHeld (near .host .accepted) (far .host .taken))
 
 -- Where the others are
 
@@ -89,10 +84,6 @@ pub record Idle (near far : Side) : Type 0 where
   pub acknowledged : near .log .ackCount ≡ length (near .host .accepted)
   pub empty : far .end .inbox .full ≡ false
 
-abbrev pub atNear : Direction → Access → Event
-atNear aToB c = atA c
-atNear bToA c = atB c
-
 -- sa is what a has sent with this slot, sb what b has
 abbrev pub unmarkedStep : ℕ → ℕ → Event → List ℕ → List ℕ → Bool
 unmarkedStep D E (slot ha hb) sa sb = noneMarked (arriving E ha sb) && noneMarked (arriving D hb sa)
@@ -101,12 +92,6 @@ unmarkedStep D E (atB c) sa sb = true
 
 abbrev pub unmarked : ℕ → ℕ → List Event → World → Bool
 unmarked D E es w = every (λ e w. unmarkedStep D E e (sends (w .a) .sent) (sends (w .b) .sent)) (step D E) es w
-
-unfoldable pub slots : List Event → ℕ
-slots [] = 0
-slots (slot ha hb ∷ es) = suc (slots es)
-slots (atA c ∷ es) = slots es
-slots (atB c ∷ es) = slots es
 
 abbrev pub bound : ℕ → ℕ → ℕ
 bound D E = 58 + D + E

@@ -1,17 +1,15 @@
 -- Two ends joined by two lines, each with its host. This page says what a run is; Demand.antt says what is demanded of
--- every run. The delays are D slots from a to b and E slots from b to a.
+-- every run. Crate joined has what is the same for any kind of ends: directions, lines, events, and what a host has.
+-- The delays are D slots from a to b and E slots from b to a.
 --   Message       a number and eight bytes; messageIn: the one in the receive register
---   Host          what a host did and was answered: the message bytes that it wrote, how far it is in taking a message,
---                 its messages that were accepted, and those that it took
+--   Host          what a host did and was answered
 --   Log           what happens in an end, for the statements alone: messages loaded, acknowledged, entered, and how
 --                 many were acknowledged when 3.2308 was last read
 --   Side, World   an end with all that it has sent (newest first), its host and its log; two of them
 --   resetSide, resetWorld   before anything is called or sent
---   Direction     from a to b, or from b to a; near, far: the side that sends its messages, the side that takes them
---   also b m l    the list l, with m behind it where b
 --   Access, hosted   what a host may call between slots; a side after such a call; withHost, with another end and host
 --   ruledCall     the rule for taking a message; Rule.antt says it in document 01's words
---   bit15, receiveSide, messageSide   of a value, of a register number
+--   receiveSide, messageSide   of a register number
 --   halves v, bytesOf   the two bytes of a register's value, 7:0 first; those of several
 --   gathered, advance   what a host has after a receive-side read
 --   didRead, readLog   what a host has after a read; the log
@@ -23,37 +21,33 @@
 --   Harm, harmed  what happens to a symbol on its way: nothing, or a mark, any value from 512 to 1,023; what arrives
 --                 then
 --   arriving, taking, entering   what arrives, one symbol or none; a side after it has taken that; its log
---   Event, step, run   a slot, or one host's call; the world after it; after a list of events (runBy: by any step)
---   every         each of a list of events passes a test
+--   takesFrom     a side after it has taken what the other one sent d slots ago
+--   Event, step, run   a slot, or one host's call; the world after it; after a list of events
 --   ruled d       in a run every call of the host that takes the messages of direction d is by the rule; ruledStep:
 --                 in one event
 -- Assumes nothing.
 use Prim.Native.Nat.{ℕ, _+_, _-_, _/_, _%_, _≤_, _<_}
-use mathlib.Core.Bool.{Bool, true, not, cond, _&&_, _||_}
+use mathlib.Core.Bool.{Bool, true, cond, _&&_}
 use mathlib.Core.List.{List, [], _∷_, _++_, map}
-use lib.Dec.{eqb, leb}
-use lib.ListN.{take, drop, set, replicate}
+use lib.Dec.{eqb}
+use lib.ListN.{replicate}
 use Rattle.answer.specs.Number.{numberOf}
-use Rattle.crc.specs.Bits.{odd}
 use Rattle.end.specs.declared.End.{End}
 use Rattle.end.specs.Good.{resetOf}
 use Rattle.end.specs.Sending.{acked, stepOne, loads, sendOf}
 use Rattle.receiver.specs.Receiving.{saidBy, placed, enters, accepts as acceptsFrame}
 use Rattle.end.specs.Taking.{settled, takeOf}
 use Rattle.end.specs.Registers.{readOf, writeOf, healthOf}
+use Rattle.joined.specs.Joined.{HostOf, within, mayRead, advanceOf, didReadOf, wroteOf, due, stepBy, ruledBy}
+pub use Rattle.joined.specs.Joined.{Pair, Direction, aToB, bToA, near, far, EventOf, slot, atA, atB, also, bit15}
+unfoldable pub use Rattle.joined.specs.Joined.{runBy, every}
 
 pub record Message : Type 0 where
   pub number : ℕ
   pub bytes : List ℕ
 
-pub record Host : Type 0 where
-  -- the last values written to 3.2309 to 3.2312 that were answered 0
-  pub written : List ℕ
-  -- how many registers of a take it has read, and what they gave so far
-  pub stage : ℕ
-  pub soFar : Message
-  pub accepted : List Message
-  pub taken : List Message
+abbrev pub Host : Type 0
+Host = HostOf Message
 
 pub record Log : Type 0 where
   pub loadCount : ℕ
@@ -67,9 +61,8 @@ pub record Side : Type 0 where
   pub host : Host
   pub log : Log
 
-pub record World : Type 0 where
-  pub a : Side
-  pub b : Side
+abbrev pub World : Type 0
+World = Pair Side
 
 abbrev pub resetSide : Side
 resetSide = record {
@@ -88,22 +81,8 @@ resetSide = record {
 abbrev pub resetWorld : World
 resetWorld = record { a = resetSide; b = resetSide }
 
-pub data Direction : Type 0 where
-  aToB bToA : Direction
-
-abbrev pub near : Direction → World → Side
-near aToB w = w .a
-near bToA w = w .b
-
-abbrev pub far : Direction → World → Side
-far aToB w = w .b
-far bToA w = w .a
-
 abbrev pub messageIn : End → Message
 messageIn e = record { number = e .inbox .number; bytes = e .inbox .bytes }
-
-abbrev pub also : Bool → Message → List Message → List Message
-also b m l = cond b (l ++ (m ∷ [])) l
 
 -- Between slots: a host's call
 
@@ -113,19 +92,16 @@ pub data Access : Type 0 where
   health : ℕ → Access
   present : Access
 
-abbrev pub bit15 : ℕ → Bool
-bit15 v = odd (v / 32768)
-
 abbrev pub receiveSide : ℕ → Bool
-receiveSide r = leb 2313 r && leb r 2317
+receiveSide r = within 2313 2317 r
 
 abbrev pub messageSide : ℕ → Bool
-messageSide r = leb 2309 r && leb r 2312
+messageSide r = within 2309 2312 r
 
 -- at stage n of a take a host reads 3.2313 + n next of its receive-side registers, or 3.2313, which begins anew; all
 -- other calls are free
 abbrev pub ruledCall : Access → Host → Bool
-ruledCall (read r) h = not (receiveSide r) || (eqb r 2313 || eqb r (2313 + h .stage))
+ruledCall (read r) h = mayRead 2313 2317 (h .stage) r
 ruledCall (write r v l) h = true
 ruledCall (health k) h = true
 ruledCall present h = true
@@ -146,17 +122,11 @@ gathered r v m = record {
 
 -- 3.2313 begins a take where bit 15 is set, 3.2317 completes it
 abbrev pub advance : ℕ → ℕ → Host → Host
-advance r v h = record {
-  written = h .written;
-  stage = cond (eqb r 2313) (cond (bit15 v) 1 0) (cond (eqb r 2317) 0 (h .stage + 1));
-  soFar = gathered r v (h .soFar);
-  accepted = h .accepted;
-  taken = also (eqb r 2317) (gathered r v (h .soFar)) (h .taken);
-}
+advance r v h = advanceOf 2313 2317 gathered r v h
 
 -- register r gave the value v; a register that is not there gives none, and is not of the receive side
 abbrev pub didRead : ℕ → ℕ → Host → Host
-didRead r v h = cond (receiveSide r) (advance r v h) h
+didRead r v h = didReadOf 2313 2317 gathered r v h
 
 -- reading 3.2308 shows what was acknowledged by then
 abbrev pub readLog : ℕ → Log → Log
@@ -180,13 +150,7 @@ messageWritten v h = record { number = v / 256 % 16; bytes = bytesOf (h .written
 
 -- v was written to register r: it accepts a message where a, and stores message bytes where s
 abbrev pub wrote : Bool → Bool → ℕ → ℕ → Host → Host
-wrote a s r v h = record {
-  written = cond s (set (h .written) (r - 2309) v) (h .written);
-  stage = h .stage;
-  soFar = h .soFar;
-  accepted = also a (messageWritten v h) (h .accepted);
-  taken = h .taken;
-}
+wrote a s r v h = wroteOf a s (messageWritten v h) (r - 2309) v h
 
 -- what the end e answers
 abbrev pub answered0 : ℕ → ℕ → End → Bool
@@ -247,7 +211,7 @@ harmed (mark v l h) y = v
 
 -- what was sent d slots ago; nothing where nothing was
 abbrev pub arriving : ℕ → Harm → List ℕ → List ℕ
-arriving d h sent = map (harmed h) (take 1 (drop d sent))
+arriving d h sent = map (harmed h) (due d sent)
 
 -- the symbol y brings a message into the receive register
 abbrev pub entersNow : ℕ → End → Bool
@@ -272,39 +236,22 @@ taking (y ∷ l) s = record {
 
 -- Events and runs
 
-pub data Event : Type 0 where
-  slot : Harm → Harm → Event
-  atA atB : Access → Event
+abbrev pub Event : Type 0
+Event = EventOf Harm Access
+
+abbrev pub takesFrom : ℕ → Harm → Side → Side → Side
+takesFrom d h other s = taking (arriving d h (other .sent)) s
 
 -- in a slot both send, then both take what arrives
 abbrev pub step : ℕ → ℕ → Event → World → World
-step D E (slot ha hb) w = record {
-  a = taking (arriving E ha (sends (w .b) .sent)) (sends (w .a));
-  b = taking (arriving D hb (sends (w .a) .sent)) (sends (w .b));
-}
-step D E (atA c) w = record { a = hosted c (w .a); b = w .b }
-step D E (atB c) w = record { a = w .a; b = hosted c (w .b) }
-
--- after each of a list of events, by a step
-unfoldable pub runBy : {W : Type 0} → (Event → W → W) → List Event → W → W
-runBy next [] w = w
-runBy next (e ∷ es) w = runBy next es (next e w)
+step D E e w = stepBy sends takesFrom hosted D E e w
 
 abbrev pub run : ℕ → ℕ → List Event → World → World
 run D E es w = runBy (step D E) es w
 
--- each of a list of events passes a test of what is there before it
-unfoldable pub every : {W : Type 0} → (Event → W → Bool) → (Event → W → W) → List Event → W → Bool
-every test next [] w = true
-every test next (e ∷ es) w = test e w && every test next es (next e w)
-
 -- a is a's host, b is b's
 abbrev pub ruledStep : Direction → Event → Host → Host → Bool
-ruledStep d (slot ha hb) a b = true
-ruledStep aToB (atA c) a b = true
-ruledStep aToB (atB c) a b = ruledCall c b
-ruledStep bToA (atA c) a b = ruledCall c a
-ruledStep bToA (atB c) a b = true
+ruledStep d e a b = ruledBy ruledCall d e a b
 
 abbrev pub ruled : Direction → ℕ → ℕ → List Event → World → Bool
 ruled d D E es w = every (λ e w. ruledStep d e (w .a .host) (w .b .host)) (step D E) es w

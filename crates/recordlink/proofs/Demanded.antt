@@ -16,24 +16,25 @@ use Rattle.end.specs.Shape.{Shaped}
 use Rattle.laws.proofs.Pieces.{spelled}
 use Rattle.recordspec.specs.Record.{size, flag, frontOf, backOf, bodyOf, recordOf, at, endOf}
 use Rattle.record.specs.Calls.{Called}
+use Rattle.joined.specs.Joined.{near, far}
 use Rattle.link.specs.Link as ends
 use Rattle.link.specs.Link.{Message, Host, Log, Side, World, Direction, aToB, bToA, write, also, accepts, acceptsNow}
 use Rattle.link.specs.Link.{messageWritten, Event, resetWorld}
 use Rattle.link.specs.Demand as demand
-use Rattle.link.specs.Demand.{InTurn, held, atNear, bit13}
+use Rattle.link.specs.Demand.{InTurn, mostHeld, held, atNear, bit13}
 use Rattle.link.specs.LogFacts.{LogFacts}
 use Rattle.link.proofs.PartOne as parts
 use Rattle.link.proofs.PartTwo as time
-use Rattle.recordlink.specs.Joined.{Area, Areas, bothStarted, near, far, done, step, run, ruled}
+use Rattle.recordlink.specs.Joined.{Area, Areas, bothStarted, done, step, run, ruled}
 use Rattle.recordlink.specs.Demand.{NothingLost, sideOf, HeldThere, Idle, Landed, Delivered, AskedAlike}
 use Rattle.recordlink.proofs.Mirror.{Holds, call-is, end-is, BothHold, started-hold, step-hold, run-hold}
 use Rattle.recordlink.proofs.Mirror.{ruled-same, unmarked-same}
 
-near-hold : (d : Direction) {w : Areas} {v : World} → BothHold w v → Holds (near d w) (ends.near d v)
+near-hold : (d : Direction) {w : Areas} {v : World} → BothHold w v → Holds (near d w) (near d v)
 near-hold aToB h = h .a
 near-hold bToA h = h .b
 
-far-hold : (d : Direction) {w : Areas} {v : World} → BothHold w v → Holds (far d w) (ends.far d v)
+far-hold : (d : Direction) {w : Areas} {v : World} → BothHold w v → Holds (far d w) (far d v)
 far-hold aToB h = h .b
 far-hold bToA h = h .a
 
@@ -60,8 +61,8 @@ ruled-ends d p q hp hq D E es r =
 
 pub nothing-lost : NothingLost
 nothing-lost d p q hp hq D E es r w is =
-    subst (λ (k : Host). InTurn (k .accepted) (far d w .host .taken)) (sym (near-hold d h .same .host))
-    (subst (λ (k : Host). InTurn (ends.near d v .host .accepted) (k .taken)) (sym (far-hold d h .same .host))
+    subst (λ (k : Host). InTurn mostHeld (k .accepted) (far d w .host .taken)) (sym (near-hold d h .same .host))
+    (subst (λ (k : Host). InTurn mostHeld (near d v .host .accepted) (k .taken)) (sym (far-hold d h .same .host))
     (parts.nothing-lost d D E es (ruled-ends d p q hp hq D E es r) v refl))
   where
     v : World
@@ -74,7 +75,7 @@ pub held-where : HeldThere
 held-where d p q hp hq D E es r w is =
     subst (λ (s : Side). s .host .accepted ≡ far d w .host .taken ++ held s (sideOf (far d w)))
     (sym (side-is (near-hold d h)))
-    (subst (λ (t : Side). ends.near d v .host .accepted ≡ t .host .taken ++ held (ends.near d v) t)
+    (subst (λ (t : Side). near d v .host .accepted ≡ t .host .taken ++ held (near d v) t)
     (sym (side-is (far-hold d h)))
     (parts.held-where d D E es (ruled-ends d p q hp hq D E es r) v refl))
   where
@@ -149,7 +150,7 @@ delivered d p q hp hq D E es w is idle v h acc x step-is fs clean enough y y-is 
     at-y : BothHold y u₃
     at-y = subst (λ (y : Areas). BothHold y u₃) (sym y-is) (run-hold D E fs x u₂ at-x)
 
-    accepted : acceptsNow 2308 v (ends.near d u .end) ≡ true
+    accepted : acceptsNow 2308 v (near d u .end) ≡ true
     accepted =
         ap (λ (c : Called). accepts 2308 v (done (c .reply))) (sym (call-is (near-hold d at-w) (Call.write 2308 v h)))
         ∙ acc

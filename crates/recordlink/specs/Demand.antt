@@ -23,12 +23,13 @@ use lib.ListN.{length}
 use Rattle.end.specs.Calls.{Call}
 use Rattle.recordspec.specs.Record.{size, recordOf, endOf, at}
 use Rattle.record.specs.Runs.{called}
-use Rattle.link.specs.Link.{Message, Side, Direction, write, accepts, messageWritten, Event, resetWorld}
+use Rattle.joined.specs.Joined.{InTurn, Direction, near, far, atNear, slots}
+use Rattle.link.specs.Link.{Message, Side, write, accepts, messageWritten, Event, resetWorld}
 use Rattle.link.specs.Link.{World, run as runEnds}
 use Rattle.link.specs.Link as ends
 use Rattle.link.specs.Demand as demand
-use Rattle.link.specs.Demand.{InTurn, held, atNear, slots, bound, bit13}
-use Rattle.recordlink.specs.Joined.{Area, Areas, bothStarted, near, far, done, step, run, ruled, unmarked}
+use Rattle.link.specs.Demand.{mostHeld, held, bound, bit13}
+use Rattle.recordlink.specs.Joined.{Area, Areas, bothStarted, done, step, run, ruled, unmarked}
 
 abbrev pub ByRule : (Area → Area → Type 0) → Type 0
 ByRule P =
@@ -57,7 +58,7 @@ Mirrored =
 -- The first part
 
 abbrev pub NothingLost : Type 0
-NothingLost = ByRule (λ near far. InTurn (near .host .accepted) (far .host .taken))
+NothingLost = ByRule (λ near far. InTurn mostHeld (near .host .accepted) (far .host .taken))
 
 abbrev pub sideOf : Area → Side
 sideOf x = record { end = endOf (x .bytes); sent = x .sent; host = x .host; log = x .log }
@@ -97,9 +98,9 @@ Delivered =
 pub record Alike (D E : ℕ) (w : Areas) (v : World) : Type 0 where
   pub rule : (d : Direction) (fs : List Event) → ruled d D E fs w ≡ ends.ruled d D E fs v
   pub marks : (fs : List Event) → unmarked D E fs w ≡ demand.unmarked D E fs v
-  pub idle : (d : Direction) → Idle (near d w) (far d w) ↔ demand.Idle (ends.near d v) (ends.far d v)
+  pub idle : (d : Direction) → Idle (near d w) (far d w) ↔ demand.Idle (near d v) (far d v)
   pub landed : (d : Direction) (n : ℕ) (m : Message)
-      → Landed n m (near d w) (far d w) ↔ demand.Landed n m (ends.near d v) (ends.far d v)
+      → Landed n m (near d w) (far d w) ↔ demand.Landed n m (near d v) (far d v)
 
 abbrev pub AskedAlike : Type 0
 AskedAlike = Always (λ D E es w. Alike D E w (runEnds D E es resetWorld))

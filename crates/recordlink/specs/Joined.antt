@@ -1,14 +1,14 @@
 -- Two records joined by two lines, each kept by a C program that lends it to the calls of include/simhadol.h. Lines,
--- events and what a host has are those of link/specs/Link.antt; here the ends are bytes, and a host knows the replies
--- alone. The delays are D slots from a to b and E slots from b to a.
+-- events and what a host has are those of crate joined and of link/specs/Link.antt; here the ends are bytes, and a host
+-- knows the replies alone. The delays are D slots from a to b and E slots from b to a.
 --   Area, Areas   a record's bytes with the values that sending on it gave (newest first), its host, and the log; two
 --                 of them
 --   started r     an area with whatever bytes r, reset; bothStarted: two of them
---   near, far     of a direction: the area whose host's messages go, the area whose host takes them
 --   done          a reply's answer is 0
 --   hosted        an area after a host's call
 --   sends         an area after it has sent; the log is by the end of its record
 --   taking        an area after it has taken what arrives, one symbol or none
+--   takesFrom     an area after it has taken what the other one sent d slots ago
 --   step, run     the areas after an event; after a list of events
 --   ruled d       in a run every call of the host that takes the messages of direction d is by the rule
 --   unmarked      no symbol that arrives at either area is marked
@@ -23,10 +23,10 @@ use Rattle.recordspec.specs.Record.{endOf}
 use Rattle.record.specs.declared.Reply.{Reply}
 use Rattle.record.specs.Calls.{resetting}
 use Rattle.record.specs.Runs.{called}
-use Rattle.link.specs.Link.{Host, Log, resetSide, Direction, aToB, bToA, Access, read, write, health, present}
+use Rattle.joined.specs.Joined.{Pair, Direction, stepBy, runBy, every}
+use Rattle.link.specs.Link.{Host, Log, resetSide, Access, read, write, health, present}
 use Rattle.link.specs.Link.{messageIn, didRead, readLog, accepts, stores, wrote, sentLog, arriving, entersNow, entering}
-use Rattle.link.specs.Link.{Event}
-use Rattle.link.specs.Link.{slot, atA, atB, runBy, every, ruledStep}
+use Rattle.link.specs.Link.{Harm, Event, ruledStep}
 use Rattle.link.specs.Demand.{unmarkedStep}
 
 pub record Area : Type 0 where
@@ -35,9 +35,8 @@ pub record Area : Type 0 where
   pub host : Host
   pub log : Log
 
-pub record Areas : Type 0 where
-  pub a : Area
-  pub b : Area
+abbrev pub Areas : Type 0
+Areas = Pair Area
 
 abbrev pub started : List ℕ → Area
 started r = record {
@@ -49,14 +48,6 @@ started r = record {
 
 abbrev pub bothStarted : List ℕ → List ℕ → Areas
 bothStarted p q = record { a = started p; b = started q }
-
-abbrev pub near : Direction → Areas → Area
-near aToB w = w .a
-near bToA w = w .b
-
-abbrev pub far : Direction → Areas → Area
-far aToB w = w .b
-far bToA w = w .a
 
 -- Between slots
 
@@ -101,13 +92,11 @@ taking (y ∷ l) x = record {
 
 -- Events and runs
 
+abbrev pub takesFrom : ℕ → Harm → Area → Area → Area
+takesFrom d h other x = taking (arriving d h (other .sent)) x
+
 abbrev pub step : ℕ → ℕ → Event → Areas → Areas
-step D E (slot ha hb) w = record {
-  a = taking (arriving E ha (sends (w .b) .sent)) (sends (w .a));
-  b = taking (arriving D hb (sends (w .a) .sent)) (sends (w .b));
-}
-step D E (atA c) w = record { a = hosted c (w .a); b = w .b }
-step D E (atB c) w = record { a = w .a; b = hosted c (w .b) }
+step D E e w = stepBy sends takesFrom hosted D E e w
 
 abbrev pub run : ℕ → ℕ → List Event → Areas → Areas
 run D E es w = runBy (step D E) es w

@@ -11,7 +11,7 @@ use mathlib.Core.Path.{_≡_}
 use lib.ListN.{replicate}
 use Rattle.recordspec.specs.Record.{size}
 use Rattle.link.specs.Link.{aToB}
-use Rattle.link.specs.Demand.{InTurn}
+use Rattle.link.specs.Demand.{InTurn, mostHeld}
 use Rattle.link.specs.Tight.{quiet}
 use Rattle.link.specs.Cases.{five, sendsFive, firstReads}
 use Rattle.recordlink.specs.Joined.{Areas, bothStarted, withHost, run, ruled}
@@ -33,4 +33,4 @@ pub record Twice : Type 0 where
   pub by-rule : ruled aToB 0 0 (firstReads 5) restored ≡ true
   pub accepted : tookAgain .a .host .accepted ≡ five ∷ []
   pub taken : tookAgain .b .host .taken ≡ five ∷ five ∷ []
-  pub not-in-turn : InTurn (tookAgain .a .host .accepted) (tookAgain .b .host .taken) → ⊥
+  pub not-in-turn : InTurn mostHeld (tookAgain .a .host .accepted) (tookAgain .b .host .taken) → ⊥

@@ -1,7 +1,9 @@
 //! `soak SECONDS [SEED]`: random scripts of every kind through both implementations, until the time is up or they
 //! differ.
 
-use second::t1::generate::KINDS;
+use second::console::Console;
+use second::script::Script;
+use second::{fibre, t1};
 use std::env;
 use std::process::ExitCode;
 use std::time::{Duration, Instant, SystemTime, UNIX_EPOCH};
@@ -34,17 +36,33 @@ fn clock_seed() -> u64 {
 /// Each round has the next seed, and one script of each kind.
 fn soak(time: Duration, first: u64) -> Result<(), String> {
     let start = Instant::now();
-    let (mut lines, mut calls) = (0, 0);
+    let mut counts = Counts::default();
     let mut seed = first;
     while start.elapsed() < time {
-        for (name, kind) in KINDS {
-            let script = kind(seed, LINES);
-            script.compare().map_err(|why| format!("{}: {}", name, why))?;
-            lines += script.lines;
-            calls += script.calls;
+        for (name, kind) in t1::generate::KINDS {
+            counts.compare(name, &kind(seed, LINES))?;
+        }
+        for (name, kind) in fibre::generate::KINDS {
+            counts.compare(name, &kind(seed, LINES))?;
         }
         seed += 1;
     }
+    let Counts { lines, calls } = counts;
     println!("seeds {} to {}, {} lines with {} calls on ends, no difference", first, seed - 1, lines, calls);
     Ok(())
+}
+
+#[derive(Default)]
+struct Counts {
+    lines: usize,
+    calls: usize,
+}
+
+impl Counts {
+    fn compare<C: Console>(&mut self, name: &str, script: &Script<C>) -> Result<(), String> {
+        script.compare().map_err(|why| format!("{}: {}", name, why))?;
+        self.lines += script.lines;
+        self.calls += script.calls;
+        Ok(())
+    }
 }

@@ -5,12 +5,11 @@ use super::fields::fields;
 use super::finder::find;
 use super::frame::{build, check, crc, Fault, DATA, SYMBOLS};
 use super::link::Link;
-use crate::console::{decimal, hex, Console, Said, Word};
+use crate::console::{decimal, hex, Console, Said, Word, LARGEST};
+use crate::fields::{dump, set};
+use crate::link::side;
 use crate::script;
-use std::fmt::Write;
 
-const LARGEST_DELAY: u32 = 4096;
-const LARGEST: u32 = 0xFFFF;
 const LARGEST_BYTE: u32 = 0xFF;
 
 pub type Script = script::Script<Bench>;
@@ -27,58 +26,20 @@ impl Default for Bench {
 }
 
 impl Console for Bench {
+    const PROVED: &'static [&'static str] = &[];
+
     fn command(&mut self, words: &[Word]) -> Said {
+        if let Some(said) = self.link.command(words) {
+            return said;
+        }
         let (first, rest) = (words[0], &words[1..]);
         match first {
-            b"link" => self.link(rest),
-            b"slot" => self.slot(rest),
-            b"mark" => self.mark(rest),
             b"check" => say_check(&symbols(rest)?),
             b"find" => say_find(&symbols(rest)?),
             b"crc" => Ok(joined(&crc(&ten_bytes(rest)?), |byte| format!("{:02X}", byte))),
             b"build" => Ok(joined(&build(&ten_bytes(rest)?), |symbol| format!("{:03X}", symbol))),
             _ => call(&mut self.link.ends[side(first)?], rest),
         }
-    }
-}
-
-impl Bench {
-    fn link(&mut self, words: &[Word]) -> Said {
-        if let [forth, back] = words {
-            let (forth, back) = (decimal(forth, LARGEST_DELAY)?, decimal(back, LARGEST_DELAY)?);
-            self.link = Link::new(forth, back);
-            return Ok("ok".to_string());
-        }
-        Err("two delays are needed")
-    }
-
-    fn slot(&mut self, words: &[Word]) -> Said {
-        let count = match words {
-            [] => 1,
-            [count] => decimal(count, LARGEST)?,
-            _ => return Err("one count at most"),
-        };
-        for _ in 0..count {
-            self.link.slot();
-        }
-        Ok(format!("slot {}", self.link.slots))
-    }
-
-    fn mark(&mut self, words: &[Word]) -> Said {
-        if let [end, count] = words {
-            let (side, count) = (side(end)?, decimal(count, LARGEST)?);
-            self.link.mark(side, count);
-            return Ok("ok".to_string());
-        }
-        Err("an end and a count are needed")
-    }
-}
-
-fn side(word: Word) -> Result<usize, &'static str> {
-    match word {
-        b"a" => Ok(0),
-        b"b" => Ok(1),
-        _ => Err("no such command or end"),
     }
 }
 
@@ -104,39 +65,10 @@ fn call(end: &mut End, words: &[Word]) -> Said {
         }
         (b"health", [health]) => Ok(end.set_health(hex(health, LARGEST)?).number().to_string()),
         (b"present", []) => Ok(if end.is_present() { "yes" } else { "no" }.to_string()),
-        (b"dump", []) => Ok(dump(end)),
-        (b"set", [name, value]) => set(end, name, None, value),
-        (b"set", [name, index, value]) => set(end, name, Some(index), value),
+        (b"dump", []) => Ok(dump(fields(end))),
+        (b"set", words) => set(fields(end), words),
         _ => Err("no such call, or not its words"),
     }
-}
-
-fn dump(end: &mut End) -> String {
-    let mut text = String::new();
-    for (name, field) in fields(end) {
-        if !text.is_empty() {
-            text.push(' ');
-        }
-        text.push_str(name);
-        let mut before = '=';
-        for value in field.values() {
-            write!(text, "{}{:X}", before, value).expect("memory takes what is written");
-            before = ',';
-        }
-    }
-    text
-}
-
-fn set(end: &mut End, name: Word, index: Option<&Word>, value: Word) -> Said {
-    let found = fields(end).into_iter().find(|(known, _)| known.as_bytes() == name);
-    let (_, mut field) = found.ok_or("no such field")?;
-    let index = match (field.elements(), index) {
-        (None, None) => 0,
-        (Some(elements), Some(index)) => usize::from(decimal(index, elements as u32 - 1)?),
-        _ => return Err("an array needs an index, no other field has one"),
-    };
-    field.store(index, hex(value, u32::from(field.largest()))?);
-    Ok("ok".to_string())
 }
 
 fn say_take(end: &mut End, symbol: u16) -> Said {

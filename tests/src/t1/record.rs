@@ -6,8 +6,9 @@
 //! counts.
 
 use super::end::{End, Reason};
-use super::fields::{fields, Field};
+use super::fields::fields;
 use crate::answer::Answer;
+use crate::fields::Field;
 use std::fmt;
 
 pub const LENGTH: usize = 101;
@@ -194,7 +195,7 @@ fn read(record: &[u8], length: usize, version: u8) -> Option<End> {
 /// The version in which a record had the field first.
 fn first_version(field: &Field) -> u8 {
     match field {
-        Field::Left(_) => 3,
+        Field::Other(_) => 3,
         Field::Word(_) => 2,
         _ => 1,
     }
@@ -202,7 +203,7 @@ fn first_version(field: &Field) -> u8 {
 
 fn width(field: &Field) -> usize {
     match field {
-        Field::Symbols(_) | Field::Word(_) | Field::Left(_) => 2,
+        Field::Words(_) | Field::Word(_) | Field::Other(_) => 2,
         Field::Bool(_) | Field::Byte(_) | Field::Bytes(_) => 1,
     }
 }

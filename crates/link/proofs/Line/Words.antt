@@ -5,20 +5,19 @@
 --   Says l v t k g n    the frame built from l says just that
 -- Assumes nothing.
 use Prim.Native.Nat.{ℕ, suc, _+_, _*_, _/_, _%_, _≤_, _<_}
-use mathlib.Core.Bool.{Bool, true, false}
+use mathlib.Core.Bool.{Bool, false}
 use mathlib.Core.List.{List, _∷_, map}
 use mathlib.Core.Path.{_≡_, ap, _∙_}
 use native.Mathlib.Nat.{mod-eq-of-lt}
 use native.Mathlib.Omega.{arith}
 use lib.ListN.{length, getD, take, drop, length-take, length-drop, length-map, List·getD-map}
 use lib.Seq.{ext-getD, getD-take, getD-drop}
-use borrow.Author.Tests.{eq-eqb, ne-eqb}
-use Rattle.crc.specs.Bits.{odd}
 use Rattle.frame.specs.Frame.{build, dataOf}
 use Rattle.frame.proofs.FrameLaws.{build-length, build-data}
 use Rattle.receiver.specs.declared.Heard.{Heard}
 use Rattle.laws.specs.Above.{above}
-use Rattle.end.specs.Sending.{bit}
+use Rattle.weights.specs.Weights.{bit}
+use Rattle.weights.proofs.Weighed.{bit-num, odd-is}
 use Rattle.receiver.specs.Receiving.{saidBy}
 use Rattle.laws.proofs.AboveLaws.{above-getD}
 use Rattle.protocol.specs.Steps.{num}
@@ -33,15 +32,6 @@ said l = saidBy (build l)
 
 abbrev pub messageIs : List ℕ → Message
 messageIs l = record { number = getD l 1 0 % 16; bytes = map dataOf (take 8 (drop 2 l)) }
-
-pub bit-num : (b : Bool) (w : ℕ) → bit b w ≡ w * num b
-bit-num true w = omega arith
-bit-num false w = omega arith
-
-pub odd-is : (b : Bool) (n : ℕ) → n % 2 ≡ num b → odd n ≡ b
-unfolding odd
-odd-is true n e = eq-eqb (n % 2) 1 e
-odd-is false n e = ne-eqb (n % 2) 1 (λ z. omega arith)
 
 -- the four bits and the number that stand in a symbol s
 word-reads : (v t k g n s : ℕ) → v ≤ 1 → t ≤ 1 → k ≤ 1 → g ≤ 1 → n ≤ 15

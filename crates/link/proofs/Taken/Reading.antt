@@ -29,7 +29,7 @@ use Rattle.protocol.specs.Steps.{num}
 use Rattle.protocol.proofs.Keeps.{num-le}
 use Rattle.link.specs.Link.{Message, Host, Side, also, read, bit15, receiveSide, halves, ruledCall, didRead}
 use Rattle.link.specs.Link.{hosted}
-use Rattle.link.proofs.Line.Words.{bit-num, odd-is}
+use Rattle.weights.proofs.Weighed.{bit-num, odd-is}
 use Rattle.link.proofs.Line.{Cell}
 use Rattle.link.proofs.Invariant.Logs.{length-more, part-more, part-grows}
 use Rattle.link.proofs.Invariant.OneWay.{noMessage, messageAt, Filling}

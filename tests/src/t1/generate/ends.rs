@@ -1,13 +1,15 @@
 //! Calls on two ends without a link, over good records and wrong ones.
 
 use super::frames::{data_bytes, flip};
-use super::writer::{Writer, SIDES};
+use super::Writer;
+use crate::fields::Field;
 use crate::random::Random;
 use crate::t1::bench::Script;
 use crate::t1::end::{End, PRESENCE};
-use crate::t1::fields::{fields, Field};
+use crate::t1::fields::fields;
 use crate::t1::frame::{build, DATA, MARK, SYMBOLS};
 use crate::t1::registers::{READ_ONLY_BITS, TX_CONTROL};
+use crate::writer::SIDES;
 
 pub fn ends(seed: u64, lines: usize) -> Script {
     let mut writer = Writer::new(seed);
@@ -175,13 +177,6 @@ impl Writer {
         let kinds = field_kinds();
         let (name, elements, largest) = kinds[self.random.below(kinds.len())];
         (name, elements.map(|elements| self.random.below(elements)), largest)
-    }
-
-    fn set(&mut self, side: usize, name: &str, index: Option<usize>, value: usize) {
-        match index {
-            None => self.script.say(format_args!("{} set {} {:X}", SIDES[side], name, value)),
-            Some(index) => self.script.say(format_args!("{} set {} {} {:X}", SIDES[side], name, index, value)),
-        }
     }
 }
 

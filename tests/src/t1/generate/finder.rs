@@ -2,7 +2,7 @@
 
 use super::classes::{Class, CLASSES};
 use super::frames::{data_bytes, flip};
-use super::writer::Writer;
+use super::Writer;
 use crate::random::Random;
 use crate::t1::bench::Script;
 use crate::t1::finder::LIMIT;

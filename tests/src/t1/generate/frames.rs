@@ -1,6 +1,6 @@
 //! Frames built and checked: sound, damaged, marked, too long, too short.
 
-use super::writer::Writer;
+use super::Writer;
 use crate::random::Random;
 use crate::t1::bench::Script;
 use crate::t1::frame::{build, DATA, MARK, SYMBOLS};

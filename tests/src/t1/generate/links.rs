@@ -1,7 +1,8 @@
 //! Two ends on lossy lines of many delays, with hosts that keep document 01's rule for taking and hosts that don't.
 
-use super::writer::{Writer, SIDES};
+use super::Writer;
 use crate::t1::bench::Script;
+use crate::writer::SIDES;
 
 pub fn links(seed: u64, lines: usize) -> Script {
     let mut writer = Writer::new(seed);

@@ -7,7 +7,6 @@ mod frames;
 mod lines;
 mod links;
 mod records;
-mod writer;
 
 pub use classes::{symbols_of, words, Class, CLASSES};
 pub use ends::{control_value, ends, good_limit};
@@ -17,7 +16,10 @@ pub use lines::lines;
 pub use links::links;
 pub use records::{about_to_end, any_call, any_good_end, damaged, wander};
 
-use super::bench::Script;
+use super::bench::{Bench, Script};
+use crate::writer;
+
+type Writer = writer::Writer<Bench>;
 
 /// A kind of script: from a seed and about how many lines are wanted.
 pub type Kind = fn(u64, usize) -> Script;

@@ -6,9 +6,9 @@ use second::proved;
 use second::script::Script;
 use std::time::Instant;
 
-/// What the proved program prints, having ended well.
-pub fn proved_prints(script: &[u8]) -> Vec<u8> {
-    let (printed, status) = proved::run(script).unwrap_or_else(|why| panic!("{}", why));
+/// What the proved console prints, having ended well.
+pub fn proved_prints<C: Console>(script: &[u8]) -> Vec<u8> {
+    let (printed, status) = proved::run(C::PROVED, script).unwrap_or_else(|why| panic!("{}", why));
     assert!(status.success(), "the proved program ended with {}", status);
     printed
 }

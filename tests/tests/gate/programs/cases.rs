@@ -1,11 +1,11 @@
 //! Document 01, "Numbers on the bench", and other lines of the page, and document 02, #101, #102 and #105 to #107: what
 //! is expected is written from the pages.
 
+use crate::helpers::cases::{cases_of, hold};
 use crate::helpers::scripts::proved_prints;
 use second::console;
 use second::t1::bench::Bench;
 
-/// A name after `#`, then lines `command > what is printed`. Lines with `//` tell of the file itself.
 const CASES: &str = include_str!("cases.txt");
 const CASES_IN_THE_FILE: usize = 59;
 
@@ -89,37 +89,19 @@ fn long_lists() -> String {
 }
 
 fn all() -> Vec<(String, String)> {
-    let mut cases: Vec<(String, String)> = Vec::new();
-    for part in CASES.split("# ").skip(1) {
-        let (name, text) = part.split_once('\n').expect("a case has lines");
-        cases.push((name.to_string(), text.trim().to_string()));
-    }
+    let mut cases = cases_of(CASES);
     assert_eq!(cases.len(), CASES_IN_THE_FILE);
     cases.extend(LIMITS.iter().map(|(field, good, bad)| (format!("answer 1, {field}"), limit_case(field, good, bad))));
     cases.push(("lists of 4,096, 4,097, 32,767, 32,768 and 32,769".to_string(), long_lists()));
     cases
 }
 
-fn hold(who: &str, answers: impl Fn(&[u8]) -> Vec<u8>) {
-    for (name, text) in all() {
-        let pairs: Vec<_> = text.lines().map(|line| line.trim().split_once(" > ").expect("command > answer")).collect();
-        let script: Vec<&str> = pairs.iter().map(|(command, _)| *command).collect();
-        let printed = String::from_utf8(answers(script.join("\n").as_bytes())).expect("the output is text");
-        let mut lines = printed.lines();
-        for (number, (command, wanted)) in pairs.iter().enumerate() {
-            let got = lines.next().unwrap_or("(nothing)");
-            assert_eq!(got, *wanted, "{}, {}: line {}, {:.80}", who, name, number + 1, command);
-        }
-        assert_eq!(lines.next(), None, "{}, {}: more was printed than asked", who, name);
-    }
-}
-
 #[test]
 fn second_keeps_them() {
-    hold("second", console::run::<Bench>);
+    hold("second", all(), console::run::<Bench>);
 }
 
 #[test]
 fn proved_keeps_them() {
-    hold("proved", proved_prints);
+    hold("proved", all(), proved_prints::<Bench>);
 }

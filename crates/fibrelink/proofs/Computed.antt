@@ -1,0 +1,86 @@
+-- The runs of Cases.antt, and those that lead to each row of table 2, computed.
+--   cases          what Cases.antt says of its runs
+--   no-more, not-denied   the statements of specs/Status.antt
+-- Assumes nothing.
+use Prim.{tt}
+use native.Mathlib.Omega.{arith}
+use mathlib.Core.Bool.{Bool, true, false, cond}
+use mathlib.Core.List.{List, [], _++_}
+use mathlib.Core.Path.{_≡_, refl}
+use Rattle.crc.specs.Bits.{odd}
+use Rattle.fibre.specs.Good.{bad}
+use Rattle.fibre.specs.Sending.{sendOf}
+use Rattle.fibre.specs.Taking.{takeOf}
+use Rattle.fibre.specs.Words.{readOf, writeOf}
+use Rattle.joined.specs.Joined.{aToB, runBy, every}
+use Rattle.fibrelink.specs.Link.{Side, resetWorld, taking, Event, run, ruled}
+use Rattle.fibrelink.specs.Demand.{wordZero}
+use Rattle.fibrelink.specs.Cases.{Case, Request, Sent, Read, Second, Full, Spoilt, Harmed, Delayed, Refused, Told}
+use Rattle.fibrelink.specs.Cases.{Agree, table}
+use Rattle.fibrelink.specs.Cases.{puts, reads, ok, atFar, atNear}
+use Rattle.fibrelink.specs.Status.{Row, rowOf, Reaches, NoMore, NotDenied}
+
+pub cases : (c : Case) → Agree (table c)
+unfolding table runBy taking bad odd sendOf takeOf readOf writeOf
+cases Request = (refl, tt)
+cases Sent = (refl, (refl, tt))
+cases Read = (refl, (refl, (refl, (refl, (refl, tt)))))
+cases Second = (refl, (refl, (refl, tt)))
+cases Full = (refl, (refl, (refl, (refl, (refl, tt)))))
+cases Spoilt = (refl, (refl, (refl, (refl, (refl, tt)))))
+cases Harmed = (refl, (refl, (refl, tt)))
+cases Delayed = (refl, (refl, (refl, (refl, tt))))
+cases Refused = (refl, (refl, (refl, tt)))
+cases Told = (refl, tt)
+
+-- Table 2
+
+asks : List Event
+asks = puts 0x8000 (omega arith)
+
+-- a message is sent, taken, and known to be
+whole : List Event
+whole = asks ++ (ok ++ (reads 9 ++ ok))
+
+-- sent, and known to have entered
+known : List Event
+known = asks ++ (ok ++ ok)
+
+-- behind the events es another message is requested, or not
+behind : Bool → List Event → List Event
+behind t es = es ++ cond t asks []
+
+reach : {r : Row} {P : Side → Side → Type 0} (es : List Event) → ruled aToB 0 0 es resetWorld ≡ true
+    → run 0 0 es resetWorld .a .log .loadCount ≡ 2 → rowOf (wordZero (run 0 0 es resetWorld .a)) ≡ r
+    → P (run 0 0 es resetWorld .a) (run 0 0 es resetWorld .b) → Reaches r P
+reach es p q r s = record { D = 0; E = 0; events = es; by-rule = p; second = q; row-is = r; shows = s }
+
+-- the second one has just so much true of it, and the first one
+pub no-more : NoMore
+unfolding runBy every taking bad odd sendOf takeOf readOf writeOf asks whole known behind
+no-more true true true = reach (behind true (whole ++ whole)) refl refl refl (omega arith, omega arith)
+no-more true true false =
+    reach (behind true (whole ++ known)) refl refl refl ((omega arith, omega arith), omega arith)
+no-more true false true =
+    reach (behind true (known ++ (asks ++ atFar))) refl refl refl (omega arith, (omega arith, omega arith))
+no-more true false false = reach (behind true (whole ++ (asks ++ atFar))) refl refl refl (omega arith, omega arith)
+no-more false true true = reach (behind false (whole ++ whole)) refl refl refl (omega arith, omega arith)
+no-more false true false =
+    reach (behind false (whole ++ known)) refl refl refl ((omega arith, omega arith), omega arith)
+no-more false false true =
+    reach (behind false (known ++ (asks ++ atFar))) refl refl refl (omega arith, (omega arith, omega arith))
+no-more false false false = reach (behind false (whole ++ (asks ++ atFar))) refl refl refl (omega arith, omega arith)
+
+-- it was taken, and what tells of it is on its way, or was spoilt
+pub not-denied : NotDenied
+unfolding runBy every taking bad odd sendOf takeOf readOf writeOf asks whole known behind
+not-denied true true true = reach (behind true (whole ++ whole)) refl refl refl (omega arith)
+not-denied true true false = reach (behind true (whole ++ (known ++ reads 9))) refl refl refl (omega arith)
+not-denied true false true =
+    reach (behind true (known ++ (reads 9 ++ (asks ++ (atNear ++ reads 9))))) refl refl refl (omega arith)
+not-denied true false false = reach (behind true (whole ++ (asks ++ (ok ++ reads 9)))) refl refl refl (omega arith)
+not-denied false true true = reach (behind false (whole ++ whole)) refl refl refl (omega arith)
+not-denied false true false = reach (behind false (whole ++ (known ++ reads 9))) refl refl refl (omega arith)
+not-denied false false true =
+    reach (behind false (known ++ (reads 9 ++ (asks ++ (atNear ++ reads 9))))) refl refl refl (omega arith)
+not-denied false false false = reach (behind false (whole ++ (asks ++ (ok ++ reads 9)))) refl refl refl (omega arith)

@@ -1,0 +1,12 @@
+pub mod Flight
+pub mod Chain
+pub mod Steps
+pub mod Way
+pub mod Kept
+pub mod Shapes
+pub mod Shown
+pub mod Took
+pub mod Demanded
+pub mod InTime
+pub mod NotSooner
+pub mod Computed

@@ -1,10 +1,11 @@
 -- The runs of Cases.antt, and those that lead to each row of table 2, computed.
 --   cases          what Cases.antt says of its runs
+--   not-all-said   what word 0 says when the far host has not read the message
 --   no-more, not-denied   the statements of specs/Status.antt
 -- Assumes nothing.
 use Prim.{tt}
 use native.Mathlib.Omega.{arith}
-use mathlib.Core.Bool.{Bool, true, false, cond}
+use mathlib.Core.Bool.{Bool, true, false, cond, false≢true}
 use mathlib.Core.List.{List, [], _++_}
 use mathlib.Core.Path.{_≡_, refl}
 use Rattle.crc.specs.Bits.{odd}
@@ -14,10 +15,11 @@ use Rattle.fibre.specs.Taking.{takeOf}
 use Rattle.fibre.specs.Words.{readOf, writeOf}
 use Rattle.joined.specs.Joined.{aToB, runBy, every}
 use Rattle.fibrelink.specs.Link.{Side, resetWorld, taking, Event, run, ruled}
-use Rattle.fibrelink.specs.Demand.{wordZero}
-use Rattle.fibrelink.specs.Cases.{Case, Request, Sent, Read, Second, Full, Spoilt, Harmed, Delayed, Refused, Told}
+use Rattle.fibrelink.specs.Demand.{wordZero, AllSaid}
+use Rattle.fibrelink.specs.Cases.{Case, Request, Sent, Read, Second, Full, Held, Spoilt, Harmed, Delayed, Refused}
+use Rattle.fibrelink.specs.Cases.{Told}
 use Rattle.fibrelink.specs.Cases.{Agree, table}
-use Rattle.fibrelink.specs.Cases.{puts, reads, ok, atFar, atNear}
+use Rattle.fibrelink.specs.Cases.{puts, first, reads, ok, atFar, atNear, after}
 use Rattle.fibrelink.specs.Status.{Row, rowOf, Reaches, NoMore, NotDenied}
 
 pub cases : (c : Case) → Agree (table c)
@@ -27,11 +29,17 @@ cases Sent = (refl, (refl, tt))
 cases Read = (refl, (refl, (refl, (refl, (refl, tt)))))
 cases Second = (refl, (refl, (refl, tt)))
 cases Full = (refl, (refl, (refl, (refl, (refl, tt)))))
+cases Held = (refl, (refl, tt))
 cases Spoilt = (refl, (refl, (refl, (refl, (refl, tt)))))
 cases Harmed = (refl, (refl, (refl, tt)))
 cases Delayed = (refl, (refl, (refl, (refl, tt))))
 cases Refused = (refl, (refl, (refl, tt)))
 cases Told = (refl, tt)
+
+-- received and not read: not all is said, since MERT does not equal MSGT
+not-all-said : AllSaid (wordZero (after 0 0 (first ++ (ok ++ ok)) .a)) → ⊥
+unfolding runBy taking bad odd sendOf takeOf readOf writeOf
+not-all-said s = false≢true (s .read)
 
 -- Table 2
 

@@ -78,7 +78,7 @@ module _ {fa fb : List Stamp} {near far : Side} (w : Way fa fb near far) (t : To
           ∙ ap₂ (λ (x y : ℕ). x + y) (also-length i (messageOf (near .end .sent)))
           (also-length (near .end .transmit .txreq) (messageOut (near .end))))
 
-      few : length (held near far) ≤ 3
+      few : length (held near far) ≤ mostHeld
       few =
           let a = num-le (far .end .receive .rxval) in
           let b = num-le i in

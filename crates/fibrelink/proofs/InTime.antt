@@ -29,9 +29,9 @@ use Rattle.laws.proofs.Bools.{and-both, and-true, either, cond-true, cond-false
 use Rattle.protocol.specs.Steps.{num}
 use Rattle.fibrelink.specs.Link.{Message, messageIn, messageWritten, Host, Side, World, resetWorld, sends, Access}
 use Rattle.fibrelink.specs.Link.{read, write, hosted, acceptsNow, Arrival, Harm, sound, spoilt, harmed, arriving}
-use Rattle.fibrelink.specs.Link.{differ}
 use Rattle.fibrelink.specs.Link.{takes, taking, takesFrom, Event, step, run}
-use Rattle.fibrelink.specs.Demand.{away, noneBad, goodStep, good, Idle, Entered, Acknowledged, Delivered}
+use Rattle.fibrelink.specs.Demand.{enough, enoughBack, away, noneBad, goodStep, good, Idle, Entered, Acknowledged}
+use Rattle.fibrelink.specs.Demand.{Delivered}
 use Rattle.fibrelink.specs.Demand.{wordZero}
 use Rattle.fibrelink.proofs.Flight.{Stamp, All}
 use Rattle.fibrelink.proofs.Chain.{heard-entered, entered-loaded}
@@ -560,8 +560,8 @@ acknowledged n k d f near far i p h = record {
 
 pub delivered : Delivered
 delivered d D E es w is idle v h q x x-is fs clean y y-is =
-    subst (λ (u : World). (1 + away d D E ≤ slots fs → Entered n m (far d u))
-    × (2 + D + E ≤ slots fs → Acknowledged n (near d u)))
+    subst (λ (u : World). (enough (away d D E) ≤ slots fs → Entered n m (far d u))
+    × (enoughBack (D + E) ≤ slots fs → Acknowledged n (near d u)))
     (sym y-is) (entered, heard)
   where
     n : ℕ
@@ -582,7 +582,7 @@ delivered d D E es w is idle v h q x x-is fs clean y y-is =
     more : More (near d x) (near d (run D E fs x))
     more = more-accepted d D E fs x
 
-    entered : 1 + away d D E ≤ slots fs → Entered n m (far d (run D E fs x))
+    entered : enough (away d D E) ≤ slots fs → Entered n m (far d (run D E fs x))
     entered e =
         placed (far d (run D E fs x) .log .entered) _ (near d w .host .accepted) (more .0) m n
         (sym (r .0 .way .accepted)
@@ -591,7 +591,7 @@ delivered d D E es w is idle v h q x x-is fs clean y y-is =
         ∙ append-assoc (near d w .host .accepted) (m ∷ []) (more .0))))
         refl (r .1 .entered (omega (arith, e)))
 
-    heard : 2 + D + E ≤ slots fs → Acknowledged n (near d (run D E fs x))
+    heard : enoughBack (D + E) ≤ slots fs → Acknowledged n (near d (run D E fs x))
     heard e =
         acknowledged n (0 + slots fs) (away d D E) (home d D E) (near d (run D E fs x)) (far d (run D E fs x)) (r .0)
         (r .1) (omega (arith, e, round d D E))

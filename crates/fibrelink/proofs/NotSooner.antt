@@ -6,7 +6,7 @@
 --   tight       the statement of specs/Demand.antt
 -- Assumes nothing.
 use Prim.{tt}
-use Prim.Native.Nat.{ℕ, zero, suc, _+_, _≤_}
+use Prim.Native.Nat.{ℕ, zero, suc, _+_, _-_, _≤_}
 use mathlib.Core.Bool.{Bool, true, false, cond, _||_}
 use mathlib.Core.List.{List, [], _∷_, map}
 use mathlib.Core.Path.{_≡_, refl, sym, ap, ap₂, subst, _∙_}
@@ -27,7 +27,8 @@ use Rattle.joined.specs.Joined.{Direction, aToB, bToA, near, far, due, slot, ru
 use Rattle.laws.proofs.Bools.{either, and-true}
 use Rattle.fibrelink.specs.Link.{Message, Side, World, resetWorld, sends, sound, harmed, differ}
 use Rattle.fibrelink.specs.Link.{taking, takesFrom, messageWritten, acceptsNow, step, run}
-use Rattle.fibrelink.specs.Demand.{away, noneBad, good, Idle, Tight, DeliveredIn}
+use Rattle.fibrelink.specs.Demand.{away, noneBad, good, Idle, Entered, Acknowledged, enough, enoughBack, Tight}
+use Rattle.fibrelink.specs.Demand.{DeliveredIn}
 use Rattle.fibrelink.specs.Tight.{quiet, sixteen, asked}
 use Rattle.fibrelink.proofs.Flight.{All}
 use Rattle.fibrelink.proofs.Steps.{sends-as}
@@ -255,15 +256,15 @@ unsent : (d : Direction) (D E : ℕ) → length (near d (asked d D E) .sent) ≡
 unsent aToB D E = refl
 unsent bToA D E = refl
 
-still-there : (d : Direction) (D E : ℕ)
-    → Still (near d (run D E (quiet (away d D E)) (asked d D E))) (far d (run D E (quiet (away d D E)) (asked d D E)))
-still-there d D E =
-    still-run (away d D E) d D E (asked d D E) (omega (arith, unsent d D E)) (asked-still d D E)
+still-there : (d : Direction) (D E n : ℕ) → n ≤ away d D E
+    → Still (near d (run D E (quiet n) (asked d D E))) (far d (run D E (quiet n) (asked d D E)))
+still-there d D E n h = still-run n d D E (asked d D E) (omega (arith, h, unsent d D E)) (asked-still d D E)
 
-silent-back : (d : Direction) (D E : ℕ) → near d (run D E (quiet (1 + D + E)) (asked d D E)) .log .ackCount ≡ 0
+silent-back : (d : Direction) (D E n : ℕ) → n ≡ 1 + D + E
+    → near d (run D E (quiet n) (asked d D E)) .log .ackCount ≡ 0
 unfolding runBy
-silent-back d D E =
-    ap (λ (k : ℕ). near d (run D E (quiet k) (asked d D E)) .log .ackCount) (sum d)
+silent-back d D E n e =
+    ap (λ (k : ℕ). near d (run D E (quiet k) (asked d D E)) .log .ackCount) (e ∙ sum d)
     ∙ (ap (λ (w : World). near d w .log .ackCount) (run-sum (away d D E) (suc (home d D E)) D E (asked d D E))
     ∙ late .unheard)
   where
@@ -274,28 +275,54 @@ silent-back d D E =
     w : World
     w = run D E (quiet (away d D E)) (asked d D E)
 
+    still : Still (near d w) (far d w)
+    still = still-there d D E (away d D E) (omega arith)
+
     late : Silent (home d D E + 0) (near d (run D E (quiet (home d D E)) (quietly D E w)))
         (far d (run D E (quiet (home d D E)) (quietly D E w)))
-    late = silent-run (home d D E) 0 d D E (quietly D E w) (omega arith) (first-step d D E w (still-there d D E))
+    late = silent-run (home d D E) 0 d D E (quietly D E w) (omega arith) (first-step d D E w still)
+
+module _ (d : Direction) (D E : ℕ) where
+  abbrev few : ℕ
+  few = enough (away d D E) - 1
+
+  abbrev fewBack : ℕ
+  fewBack = enoughBack (D + E) - 1
+
+  -- the world after k quiet slots from the request on, and the message
+  abbrev soon : ℕ → World
+  soon k = run D E (quiet k) (asked d D E)
+
+  abbrev asking : Message
+  asking = messageWritten 0x8000 (near d resetWorld .host)
+
+  none : (d : Direction) → length (near d resetWorld .host .accepted) ≡ 0
+  none aToB = refl
+  none bToA = refl
+
+  -- what would be so then
+  sooner : (n m k : ℕ) → DeliveredIn n m d D E
+      → (n ≤ k → Entered 0 asking (far d (soon k))) × (m ≤ k → Acknowledged 0 (near d (soon k)))
+  unfolding runBy
+  sooner n m k s =
+      let r = s [] resetWorld refl (idle-reset d) 0x8000 sixteen (asked-accepts d) (asked d D E) refl (quiet k)
+      (quiet-good k D E (asked d D E)) (soon k) refl in (
+        λ h. subst (λ (j : ℕ). Entered j asking (far d (soon k))) (none d) (r .0 (omega (arith, h, quiet-slots k))),
+        λ h. subst (λ (j : ℕ). Acknowledged j (near d (soon k))) (none d) (r .1 (omega (arith, h, quiet-slots k))),
+      )
+
+  entered-sooner : DeliveredIn few (enoughBack (D + E)) d D E → ⊥
+  entered-sooner s =
+      let e = sooner few (enoughBack (D + E)) few s .0 (omega arith) in
+      let t = still-there d D E few (omega arith) in
+      let a = ap (λ (l : List Message). length l) (sym (e .2) ∙ t .entered) in
+      let b = length-append (e .0) (asking ∷ e .1) in
+      absurd (omega (arith, a, b))
+
+  heard-sooner : DeliveredIn (enough (away d D E)) fewBack d D E → ⊥
+  heard-sooner s =
+      let a = sooner (enough (away d D E)) fewBack fewBack s .1 (omega arith) .changed in
+      absurd (omega (arith, a, silent-back d D E fewBack (omega arith)))
 
 pub tight : Tight
-unfolding runBy
-tight d D E = (entered-sooner, heard-sooner)
-  where
-    entered-sooner : DeliveredIn (away d D E) (2 + D + E) d D E → ⊥
-    entered-sooner s =
-        let r = s [] resetWorld refl (idle-reset d) 0x8000 sixteen (asked-accepts d) (asked d D E) refl
-        (quiet (away d D E)) (quiet-good (away d D E) D E (asked d D E))
-        (run D E (quiet (away d D E)) (asked d D E)) refl in
-        let e = r .0 (omega (arith, quiet-slots (away d D E))) in
-        let a = ap (λ (l : List Message). length l) (sym (e .2) ∙ still-there d D E .entered) in
-        let b = length-append (e .0) (messageWritten 0x8000 (near d resetWorld .host) ∷ e .1) in
-        absurd (omega (arith, a, b))
-
-    heard-sooner : DeliveredIn (1 + away d D E) (1 + D + E) d D E → ⊥
-    heard-sooner s =
-        let r = s [] resetWorld refl (idle-reset d) 0x8000 sixteen (asked-accepts d) (asked d D E) refl
-        (quiet (1 + D + E)) (quiet-good (1 + D + E) D E (asked d D E))
-        (run D E (quiet (1 + D + E)) (asked d D E)) refl in
-        let a = r .1 (omega (arith, quiet-slots (1 + D + E))) .changed in
-        absurd (omega (arith, a, silent-back d D E))
+tight d D E = (entered-sooner d D E, heard-sooner d D E)

@@ -22,6 +22,7 @@ use Rattle.weights.specs.Weights.{bit}
 use Rattle.fibre.specs.Good.{noBlock}
 use Rattle.fibre.specs.Words.{readOf}
 use Rattle.joined.specs.Joined.{slot, atA, atB}
+use Rattle.fibrelink.specs.Demand.{held}
 use Rattle.fibrelink.specs.Link.{Message, World, resetWorld, read, write, sound, spoilt, Arrival, arriving, Event}
 use Rattle.fibrelink.specs.Link.{run}
 
@@ -78,6 +79,10 @@ abbrev pub spelt : List Message → List ℕ
 spelt [] = []
 spelt (m ∷ l) = m .control ∷ (m .words ++ spelt l)
 
+-- the controls of the messages held
+abbrev pub places : List Event → List ℕ
+places es = map (λ m. m .control) (held (after 0 0 es .a) (after 0 0 es .b))
+
 -- bit 15 where it is marked bad, and its control
 abbrev pub seen : Arrival → ℕ
 seen y = bit (y .marked) 32768 + y .block .control
@@ -98,8 +103,11 @@ two = one ++ (puts 0x8123 (omega arith) ++ (ok ++ ok))
 abbrev pub three : List Event
 three = two ++ (puts 0x8456 (omega arith) ++ (ok ++ ok))
 
+abbrev pub four : List Event
+four = three ++ puts 0x8001 (omega arith)
+
 pub data Case : Type 0 where
-  Request Sent Read Second Full Spoilt Harmed Delayed Refused Told : Case
+  Request Sent Read Second Full Held Spoilt Harmed Delayed Refused Told : Case
 
 unfoldable pub table : Case → List Row
 -- TXREQ; bits 14:12 are not stored
@@ -130,6 +138,11 @@ table Full =
     ∷ row (look 0 0 (three ++ reads 9)) (0x3456 ∷ 0x0123 ∷ [])
     ∷ row (look 0 0 (three ++ (reads 9 ++ ok))) (0x1456 ∷ 0x9456 ∷ [])
     ∷ row (look 0 0 (three ++ (reads 9 ++ (ok ++ ok)))) (0x5456 ∷ 0x9456 ∷ [])
+    ∷ []
+-- a fourth one is requested: one is taken, and one in each of the three places
+table Held =
+    row (spelt (after 0 0 four .b .host .taken)) (0xABC ∷ 0x1122 ∷ 0 ∷ 0 ∷ 0 ∷ 0 ∷ 0 ∷ 0 ∷ 0x8877 ∷ [])
+    ∷ row (places four) (0x123 ∷ 0x456 ∷ 0x001 ∷ [])
     ∷ []
 -- a bad block is as none: what is sent again brings the message, or its PHYT, a block later
 table Spoilt =

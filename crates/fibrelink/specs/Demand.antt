@@ -18,11 +18,11 @@
 --   Acknowledged n   its PHYT is back: PHYT has changed n + 1 times, and equals MSGT unless a later message was loaded
 --   DeliveredIn   accepted into an idle direction, with nothing bad a message has entered after n slots and is
 --                 acknowledged after m
---   Delivered     it has entered after 1 + D slots, D being the delay of its direction, and is acknowledged after
---                 2 + D + E
+--   enough, enoughBack   1 + D, where D is the delay of the message's direction, and 2 + D + E
+--   Delivered     it has entered after 1 + D slots and is acknowledged after 2 + D + E
 --   Tight         and not sooner
 -- Assumes nothing.
-use Prim.Native.Nat.{ℕ, suc, _+_, _/_, _≤_, _<_, _^_}
+use Prim.Native.Nat.{ℕ, suc, _+_, _-_, _/_, _≤_, _<_, _^_}
 use mathlib.Core.Bool.{Bool, true, false, not, _&&_}
 use mathlib.Core.List.{List, [], _∷_, _++_}
 use mathlib.Core.Path.{_≡_}
@@ -133,11 +133,17 @@ DeliveredIn n m d D E =
     → Entered (length (near d w .host .accepted)) (messageWritten v (near d w .host)) (far d y))
     × (m ≤ slots fs → Acknowledged (length (near d w .host .accepted)) (near d y))
 
+abbrev pub enough : ℕ → ℕ
+enough delay = 1 + delay
+
+abbrev pub enoughBack : ℕ → ℕ
+enoughBack round = 2 + round
+
 abbrev pub Delivered : Type 0
-Delivered = (d : Direction) (D E : ℕ) → DeliveredIn (1 + away d D E) (2 + D + E) d D E
+Delivered = (d : Direction) (D E : ℕ) → DeliveredIn (enough (away d D E)) (enoughBack (D + E)) d D E
 
 -- with one slot less, neither holds, for any delays
 abbrev pub Tight : Type 0
 Tight =
-    (d : Direction) (D E : ℕ) → (DeliveredIn (away d D E) (2 + D + E) d D E → ⊥)
-    × (DeliveredIn (1 + away d D E) (1 + D + E) d D E → ⊥)
+    (d : Direction) (D E : ℕ) → (DeliveredIn (enough (away d D E) - 1) (enoughBack (D + E)) d D E → ⊥)
+    × (DeliveredIn (enough (away d D E)) (enoughBack (D + E) - 1) d D E → ⊥)

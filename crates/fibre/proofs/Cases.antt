@@ -1,24 +1,27 @@
 -- Computed cases, worked out by hand from request #109 (see specs/Worked.antt for the end that they start from).
 --   worked-*    what each call gives and does, with each bool set alone, or with one more
---   limit-*     controls of 4,095 and 4,096
+--   whole-*     the whole end after each call: what the call does not name stays
+--   limit-*     controls of 4,095 and 4,096, in each of the calls
 --   reset-*     after reset all is 0
 --   first-*     a message on its way from one end to the other after reset, and what both hosts read
 --   second-*    the next message, while the first one is not read yet
 -- Assumes nothing.
-use mathlib.Core.Bool.{true, false, _||_}
-use mathlib.Core.List.{[], _∷_, map}
+use mathlib.Core.Bool.{Bool, true, false, not, _||_}
+use Prim.Native.Nat.{ℕ}
+use mathlib.Core.List.{List, [], _∷_, _++_, map}
 use mathlib.Core.Path.{_≡_, refl}
 use lib.Dec.{eqb}
 use lib.ListN.{getD, replicate}
 use Rattle.answer.specs.Number.{numberOf}
 use Rattle.crc.specs.Bits.{odd}
 use Rattle.fibre.specs.declared.End.{End}
+use Rattle.fibre.specs.declared.Next.{Next}
 use Rattle.fibre.specs.Good.{bad, resetOf}
 use Rattle.fibre.specs.Sending.{sendOf}
 use Rattle.fibre.specs.Taking.{takeOf}
 use Rattle.fibre.specs.Words.{readOf, writeOf}
 use Rattle.fibre.specs.Worked.{limited, worked, none, alone, two, each, with, block, brought, toggles}
-use Rattle.fibre.specs.Worked.{controls, listed}
+use Rattle.fibre.specs.Worked.{controls, eight, numbers, listed}
 
 -- Read
 
@@ -159,6 +162,82 @@ worked-rows : map (λ w. numberOf (writeOf (worked none) w 0 .answer)) (0 ∷ 8 
 unfolding bad writeOf odd
 worked-rows = refl
 
+-- The whole end: what a call does not name stays
+
+-- the toggles t, the controls c, and the words as they are
+abbrev still : ℕ → List ℕ → List ℕ
+still t c = t ∷ (c ++ (eight 0x1000 ++ (eight 0x2000 ++ eight 0x3000)))
+
+abbrev three : List ℕ
+three = 0x123 ∷ 0x456 ∷ 0x789 ∷ []
+
+-- words 0 and 16 change nothing; word 17 RXVAL alone
+whole-read : map (λ w. numbers (readOf (worked (alone 6)) w .end)) (0 ∷ 16 ∷ 17 ∷ [])
+    ≡ still 0x02 three ∷ still 0x02 three ∷ still 0x00 three ∷ []
+unfolding bad readOf
+whole-read = refl
+
+-- nothing requested; requested and not received; loaded
+whole-sent : map (λ b. numbers (sendOf (worked b) .end)) (none ∷ two 0 1 ∷ alone 0 ∷ [])
+    ≡ still 0x00 three ∷ still 0xC0 three
+    ∷ (0x10 ∷ 0x123 ∷ 0x123 ∷ 0x789 ∷ (eight 0x1000 ++ (eight 0x1000 ++ eight 0x3000))) ∷ []
+unfolding bad sendOf
+whole-sent = refl
+
+-- where nothing is requested the same block goes out again
+whole-again : listed (sendOf (worked none) .block) ≡ 0 ∷ 0x456 ∷ eight 0x2000
+unfolding bad sendOf
+whole-again = refl
+
+-- stored; known already, with RXVAL 0; no room
+whole-taken :
+    map (λ b. numbers (takeOf (worked b) false (brought true true false) .end)) (none ∷ alone 4 ∷ alone 6 ∷ [])
+    ≡ (0x4B ∷ 0x123 ∷ 0x456 ∷ 0xABC ∷ (eight 0x1000 ++ (eight 0x2000 ++ eight 0x4000)))
+    ∷ still 0x48 three ∷ still 0x42 three ∷ []
+unfolding bad takeOf
+whole-taken = refl
+
+whole-marked : numbers (takeOf (worked none) true (brought true true true) .end) ≡ still 0x00 three
+unfolding bad takeOf
+whole-marked = refl
+
+-- with all set but TXREQ
+abbrev free : ℕ → Bool
+free n = not (eqb n 0)
+
+whole-control : numbers (writeOf (worked free) 0 0xFABC .end) ≡ still 0xFF (0xABC ∷ 0x456 ∷ 0x789 ∷ [])
+unfolding bad writeOf odd
+whole-control = refl
+
+abbrev put : ℕ → List ℕ
+put w = numbers (writeOf (worked free) w 0xBEEF .end)
+
+abbrev wrote : List ℕ → List ℕ
+wrote l = 0x7F ∷ (three ++ (l ++ (eight 0x2000 ++ eight 0x3000)))
+
+whole-words : map put (1 ∷ 2 ∷ 3 ∷ 4 ∷ 5 ∷ 6 ∷ 7 ∷ 8 ∷ [])
+    ≡ wrote (0xBEEF ∷ 0x1002 ∷ 0x1003 ∷ 0x1004 ∷ 0x1005 ∷ 0x1006 ∷ 0x1007 ∷ 0x1008 ∷ [])
+    ∷ wrote (0x1001 ∷ 0xBEEF ∷ 0x1003 ∷ 0x1004 ∷ 0x1005 ∷ 0x1006 ∷ 0x1007 ∷ 0x1008 ∷ [])
+    ∷ wrote (0x1001 ∷ 0x1002 ∷ 0xBEEF ∷ 0x1004 ∷ 0x1005 ∷ 0x1006 ∷ 0x1007 ∷ 0x1008 ∷ [])
+    ∷ wrote (0x1001 ∷ 0x1002 ∷ 0x1003 ∷ 0xBEEF ∷ 0x1005 ∷ 0x1006 ∷ 0x1007 ∷ 0x1008 ∷ [])
+    ∷ wrote (0x1001 ∷ 0x1002 ∷ 0x1003 ∷ 0x1004 ∷ 0xBEEF ∷ 0x1006 ∷ 0x1007 ∷ 0x1008 ∷ [])
+    ∷ wrote (0x1001 ∷ 0x1002 ∷ 0x1003 ∷ 0x1004 ∷ 0x1005 ∷ 0xBEEF ∷ 0x1007 ∷ 0x1008 ∷ [])
+    ∷ wrote (0x1001 ∷ 0x1002 ∷ 0x1003 ∷ 0x1004 ∷ 0x1005 ∷ 0x1006 ∷ 0xBEEF ∷ 0x1008 ∷ [])
+    ∷ wrote (0x1001 ∷ 0x1002 ∷ 0x1003 ∷ 0x1004 ∷ 0x1005 ∷ 0x1006 ∷ 0x1007 ∷ 0xBEEF ∷ [])
+    ∷ []
+unfolding bad writeOf
+whole-words = refl
+
+-- refused while TXREQ is 1, each of the words 0 to 8: answer 4, and nothing is stored; words 9 and 18 get 3 and 2 first
+abbrev blocked : ℕ → List ℕ
+blocked w = let r = writeOf (worked (alone 0)) w 0xFABC in numberOf (r .answer) ∷ numbers (r .end)
+
+whole-blocked : map blocked (0 ∷ 1 ∷ 5 ∷ 8 ∷ 9 ∷ 18 ∷ [])
+    ≡ (4 ∷ still 0x80 three) ∷ (4 ∷ still 0x80 three) ∷ (4 ∷ still 0x80 three) ∷ (4 ∷ still 0x80 three)
+    ∷ (3 ∷ still 0x80 three) ∷ (2 ∷ still 0x80 three) ∷ []
+unfolding bad writeOf odd
+whole-blocked = refl
+
 -- Answer 1: 4,096 in each of the three controls, and in a block, good or bad
 
 limit-sent : map (λ e. numberOf (sendOf e .answer))
@@ -180,6 +259,48 @@ limit-within : map (λ m. numberOf (takeOf (worked none) m (block 4095 true true
     ≡ 0 ∷ 0 ∷ []
 unfolding bad takeOf
 limit-within = refl
+
+-- each call on each of the three, also where 2, 3 or 4 would come next: answer 1, value 0, and the end as it was
+abbrev controlled : List (List ℕ)
+controlled = (4096 ∷ 0 ∷ 0 ∷ []) ∷ (0 ∷ 4096 ∷ 0 ∷ []) ∷ (0 ∷ 0 ∷ 4096 ∷ []) ∷ []
+
+-- RXVAL and TXREQ are 1
+abbrev over : List ℕ → End
+over c = limited (two 0 6) (getD c 0 0) (getD c 1 0) (getD c 2 0)
+
+abbrev refused : List (List ℕ)
+refused = map (λ c. 1 ∷ (0 ∷ still 0x82 c)) controlled
+
+limit-ends : map (λ c. numberOf (sendOf (over c) .answer) ∷ (0 ∷ numbers (sendOf (over c) .end))) controlled ≡ refused
+unfolding bad sendOf
+limit-ends = refl
+
+limit-read :
+    map (λ c. let r = readOf (over c) 17 in numberOf (r .answer) ∷ (r .value ∷ numbers (r .end))) controlled ≡ refused
+unfolding bad readOf
+limit-read = refl
+
+limit-outside : map (λ c. numberOf (readOf (over c) 18 .answer)) controlled ≡ 1 ∷ 1 ∷ 1 ∷ []
+unfolding bad readOf
+limit-outside = refl
+
+abbrev told : Next → List ℕ
+told r = numberOf (r .answer) ∷ (0 ∷ numbers (r .end))
+
+limit-written : map (λ w. map (λ c. told (writeOf (over c) w 0x7FFF)) controlled)
+    (0 ∷ 8 ∷ 9 ∷ 18 ∷ []) ≡ refused ∷ refused ∷ refused ∷ refused ∷ []
+unfolding bad writeOf odd
+limit-written = refl
+
+limit-heard : map (λ m. map (λ c. told (takeOf (over c) m (brought true true true))) controlled) (false ∷ true ∷ [])
+    ≡ refused ∷ refused ∷ []
+unfolding bad takeOf
+limit-heard = refl
+
+limit-unheard : map (λ m. numbers (takeOf (worked none) m (block 4096 true true true) .end)) (false ∷ true ∷ [])
+    ≡ still 0x00 three ∷ still 0x00 three ∷ []
+unfolding bad takeOf
+limit-unheard = refl
 
 -- After reset all is 0
 

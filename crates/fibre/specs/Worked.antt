@@ -8,11 +8,13 @@
 --   brought t p m    the same, the control different too
 --   toggles e        the eight, the first one as bit 7
 --   controls e       the three controls, in the same order
+--   eight k          the eight numbers after k
+--   numbers e        the whole end: its toggles, its controls, its words
 --   listed b         a block's toggles, MSGT as bit 2, its control and its words
 -- Assumes nothing.
 use Prim.Native.Nat.{ℕ, _+_}
 use mathlib.Core.Bool.{Bool, false, _||_}
-use mathlib.Core.List.{List, [], _∷_, map}
+use mathlib.Core.List.{List, [], _∷_, _++_, map}
 use lib.Dec.{eqb}
 use Rattle.weights.specs.Weights.{bit}
 use Rattle.fibre.specs.declared.Block.{Block}
@@ -85,6 +87,12 @@ toggles e =
 
 abbrev pub controls : End → List ℕ
 controls e = e .transmit .control ∷ e .sent .control ∷ e .receive .control ∷ []
+
+abbrev pub eight : ℕ → List ℕ
+eight k = (k + 1) ∷ (k + 2) ∷ (k + 3) ∷ (k + 4) ∷ (k + 5) ∷ (k + 6) ∷ (k + 7) ∷ (k + 8) ∷ []
+
+abbrev pub numbers : End → List ℕ
+numbers e = toggles e ∷ (controls e ++ (e .transmit .words ++ (e .sent .words ++ e .receive .words)))
 
 abbrev pub listed : Block → List ℕ
 listed b = (bit (b .msgt) 4 + bit (b .phyt) 2 + bit (b .mert) 1) ∷ b .control ∷ b .words

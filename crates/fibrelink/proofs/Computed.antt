@@ -2,28 +2,31 @@
 --   cases          what Cases.antt says of its runs
 --   not-all-said   what word 0 says when the far host has not read the message
 --   no-more, not-denied   the statements of specs/Status.antt
+--   most-tight     and of specs/Tight.antt
 -- Assumes nothing.
 use Prim.{tt}
 use native.Mathlib.Omega.{arith}
 use mathlib.Core.Bool.{Bool, true, false, cond, false≢true}
 use mathlib.Core.List.{List, [], _++_}
-use mathlib.Core.Path.{_≡_, refl}
+use mathlib.Core.Path.{_≡_, refl, ap}
+use lib.ListN.{length, length-append}
 use Rattle.crc.specs.Bits.{odd}
 use Rattle.fibre.specs.Good.{bad}
 use Rattle.fibre.specs.Sending.{sendOf}
 use Rattle.fibre.specs.Taking.{takeOf}
 use Rattle.fibre.specs.Words.{readOf, writeOf}
 use Rattle.joined.specs.Joined.{aToB, runBy, every}
-use Rattle.fibrelink.specs.Link.{Side, resetWorld, taking, Event, run, ruled}
-use Rattle.fibrelink.specs.Demand.{wordZero, AllSaid}
+use Rattle.fibrelink.specs.Link.{Message, Side, resetWorld, taking, Event, run, ruled}
+use Rattle.fibrelink.specs.Demand.{wordZero, noneBad, AllSaid}
+use Rattle.fibrelink.specs.Tight.{crowding, MostTight}
 use Rattle.fibrelink.specs.Cases.{Case, Request, Sent, Read, Second, Full, Held, Spoilt, Harmed, Delayed, Refused}
 use Rattle.fibrelink.specs.Cases.{Told}
-use Rattle.fibrelink.specs.Cases.{Agree, table}
+use Rattle.fibrelink.specs.Cases.{Ruled, Unharmed, Agree, table}
 use Rattle.fibrelink.specs.Cases.{puts, first, reads, ok, atFar, atNear, after}
 use Rattle.fibrelink.specs.Status.{Row, rowOf, Reaches, NoMore, NotDenied}
 
 pub cases : (c : Case) → Agree (table c)
-unfolding table runBy taking bad odd sendOf takeOf readOf writeOf
+unfolding table runBy every taking noneBad bad odd sendOf takeOf readOf writeOf
 cases Request = (refl, tt)
 cases Sent = (refl, (refl, tt))
 cases Read = (refl, (refl, (refl, (refl, (refl, tt)))))
@@ -35,6 +38,8 @@ cases Harmed = (refl, (refl, (refl, tt)))
 cases Delayed = (refl, (refl, (refl, (refl, tt))))
 cases Refused = (refl, (refl, (refl, tt)))
 cases Told = (refl, tt)
+cases Ruled = (refl, (refl, tt))
+cases Unharmed = (refl, tt)
 
 -- received and not read: not all is said, since MERT does not equal MSGT
 not-all-said : AllSaid (wordZero (after 0 0 (first ++ (ok ++ ok)) .a)) → ⊥
@@ -92,3 +97,22 @@ not-denied false true false = reach (behind false (whole ++ (known ++ reads 9)))
 not-denied false false true =
     reach (behind false (known ++ (reads 9 ++ (asks ++ (atNear ++ reads 9))))) refl refl refl (omega arith)
 not-denied false false false = reach (behind false (whole ++ (asks ++ (ok ++ reads 9)))) refl refl refl (omega arith)
+
+-- Three messages held
+
+crowded-ruled : ruled aToB 0 0 crowding resetWorld ≡ true
+unfolding runBy every taking bad odd sendOf takeOf readOf writeOf
+crowded-ruled = refl
+
+-- how many of both
+crowded-counts : (length (run 0 0 crowding resetWorld .a .host .accepted) ≡ 3)
+    × (length (run 0 0 crowding resetWorld .b .host .taken) ≡ 0)
+unfolding runBy taking bad odd sendOf takeOf readOf writeOf
+crowded-counts = (refl, refl)
+
+pub most-tight : MostTight
+most-tight h =
+    let t = h aToB 0 0 crowding crowded-ruled (run 0 0 crowding resetWorld) refl in
+    let a = ap (λ (l : List Message). length l) (t .whole) in
+    let b = length-append (run 0 0 crowding resetWorld .b .host .taken) (t .rest) in
+    absurd (omega (arith, a, b, t .few, crowded-counts .0, crowded-counts .1))

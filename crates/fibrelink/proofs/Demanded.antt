@@ -21,7 +21,7 @@ use Rattle.fibrelink.specs.Link.{Message, messageIn, messageOut, message
 use Rattle.fibrelink.specs.Demand.{ByRule, NothingLost, HeldThere, registerHolds, inFlight, pendingIn, held}
 use Rattle.fibrelink.specs.Demand.{mostHeld, wordZero, bitOf, AllSaid, AllTaken}
 use Rattle.fibrelink.specs.Status.{Row, table, rowOf, Told, TableTwo}
-use Rattle.fibrelink.specs.LogFacts.{LogFacts, LogsTrue, EnteredIs}
+use Rattle.fibrelink.specs.LogFacts.{LogFacts, LogsTrue, EnteredIs, ReadFacts, ReadsTrue}
 use Rattle.fibrelink.proofs.Flight.{Stamp}
 use Rattle.fibrelink.proofs.Chain.{Toggles, heard-entered, entered-loaded, read-gone}
 use Rattle.fibrelink.proofs.Way.{Way, same-num, other-num}
@@ -282,3 +282,12 @@ log-facts w = record {
 pub logs-true : LogsTrue
 logs-true d D E es w e =
     subst (λ (x : World). LogFacts (near d x) (far d x)) (sym e) (log-facts (kept d D E es .way))
+
+pub reads-true : ReadsTrue
+reads-true =
+    by-rule ReadFacts
+    (λ _ _ _ far w t. record {
+      sent-mert =
+          toggle-is _ _ (subst (λ (n : ℕ). Toggles (far .end .sent .mert) n) (sym (taken-count w t)) (w .sent-mert));
+      toggle = λ h. toggle-is _ _ (w .toggle h);
+    })

@@ -10,3 +10,4 @@ pub mod Demanded
 pub mod InTime
 pub mod NotSooner
 pub mod Computed
+pub mod Means

@@ -6,8 +6,13 @@
 --   puts v         a's host writes v to word 0
 --   first          it writes the first message; its value has bits 14:12 set, which are ignored
 --   reads n        b's host makes the first n reads of a take
---   ok, atFar, atNear   a slot with nothing harmed; with what arrives at b, or at a, marked bad: a block with every
---                  toggle set and a message of its own
+--   ok, atFar, atNear   a slot with nothing harmed; with what arrives at b, or at a, marked bad: a strange block, with
+--                  every toggle set, words of its own and a control that no block has
+--   after          the world after events, with delays
+--   spelt, places  control and words of messages; the controls of the messages held
+--   seen, concat   what arrives, in numbers; several of them
+--   byRule, unharmed   1 where the rule is kept, where nothing bad arrives
+--   one .. four    runs with so many messages; others, late: calls that the rule leaves free, a write that is refused
 --   Case, table    the rows of each case
 -- Assumes nothing.
 use Prim.{Unit}
@@ -16,15 +21,16 @@ use mathlib.Core.Bool.{true}
 use mathlib.Core.List.{List, [], _∷_, _++_, map}
 use mathlib.Core.Path.{_≡_}
 use native.Mathlib.Omega.{arith}
-use lib.ListN.{take, replicate}
+use lib.ListN.{take, drop, replicate}
 use Rattle.fibre.specs.declared.Block.{Block}
 use Rattle.weights.specs.Weights.{bit}
 use Rattle.fibre.specs.Good.{noBlock}
 use Rattle.fibre.specs.Words.{readOf}
-use Rattle.joined.specs.Joined.{slot, atA, atB}
-use Rattle.fibrelink.specs.Demand.{held}
+use Rattle.fibre.specs.Worked.{listed}
+use Rattle.joined.specs.Joined.{Direction, aToB, bToA, slot, atA, atB}
+use Rattle.fibrelink.specs.Demand.{held, good}
 use Rattle.fibrelink.specs.Link.{Message, World, resetWorld, read, write, sound, spoilt, Arrival, arriving, Event}
-use Rattle.fibrelink.specs.Link.{run}
+use Rattle.fibrelink.specs.Link.{run, ruled}
 
 pub record Row : Type 0 where
   pub got : List ℕ
@@ -49,7 +55,7 @@ abbrev pub ok : List Event
 ok = slot sound sound ∷ []
 
 abbrev pub strange : Block
-strange = record { msgt = true; phyt = true; mert = true; control = 0x999; words = replicate 8 0x9999 }
+strange = record { msgt = true; phyt = true; mert = true; control = 0xF999; words = replicate 8 0x9999 }
 
 abbrev pub atFar : List Event
 atFar = slot sound (spoilt strange) ∷ []
@@ -83,11 +89,29 @@ spelt (m ∷ l) = m .control ∷ (m .words ++ spelt l)
 abbrev pub places : List Event → List ℕ
 places es = map (λ m. m .control) (held (after 0 0 es .a) (after 0 0 es .b))
 
--- bit 15 where it is marked bad, and its control
-abbrev pub seen : Arrival → ℕ
-seen y = bit (y .marked) 32768 + y .block .control
+-- whether it is marked bad, and the whole block
+abbrev pub seen : Arrival → List ℕ
+seen y = bit (y .marked) 1 ∷ listed (y .block)
+
+-- 1 where the host that takes the messages of direction d keeps the rule in the events es from reset
+abbrev pub byRule : Direction → List Event → ℕ
+byRule d es = bit (ruled d 0 0 es resetWorld) 1
+
+-- 1 where nothing bad arrives in the events es from reset, with delays 1 there and 0 back
+abbrev pub unharmed : List Event → ℕ
+unharmed es = bit (good 1 0 es resetWorld) 1
+
+abbrev pub concat : List (List ℕ) → List ℕ
+concat [] = []
+concat (l ∷ ls) = l ++ concat ls
 
 -- The cases
+
+-- what the rule leaves free: writes, and reads of other words
+abbrev pub others : List Event
+others =
+    atB (write 0 0x8000 (omega arith)) ∷ atB (write 9 1 (omega arith)) ∷ atB (read 0) ∷ atB (read 8) ∷ atB (read 18)
+    ∷ []
 
 -- a word written too late for the message before it
 abbrev pub late : List Event
@@ -107,7 +131,7 @@ abbrev pub four : List Event
 four = three ++ puts 0x8001 (omega arith)
 
 pub data Case : Type 0 where
-  Request Sent Read Second Full Held Spoilt Harmed Delayed Refused Told : Case
+  Request Sent Read Second Full Held Spoilt Harmed Delayed Refused Told Ruled Unharmed : Case
 
 unfoldable pub table : Case → List Row
 -- TXREQ; bits 14:12 are not stored
@@ -154,9 +178,9 @@ table Spoilt =
     ∷ []
 -- what arrives where one is spoilt: any other block, marked bad; where nothing was sent yet, nothing
 table Harmed =
-    row (map seen (arriving 0 (spoilt strange) (noBlock ∷ []))) (0x8999 ∷ [])
-    ∷ row (map seen (arriving 0 sound (strange ∷ []))) (0x0999 ∷ [])
-    ∷ row (map seen (arriving 1 (spoilt strange) (noBlock ∷ []))) []
+    row (concat (map seen (arriving 0 (spoilt strange) (noBlock ∷ [])))) (1 ∷ 7 ∷ 0xF999 ∷ replicate 8 0x9999)
+    ∷ row (concat (map seen (arriving 0 sound (strange ∷ [])))) (0 ∷ 7 ∷ 0xF999 ∷ replicate 8 0x9999)
+    ∷ row (concat (map seen (arriving 1 (spoilt strange) (noBlock ∷ [])))) []
     ∷ []
 -- delays of 1 there and 2 back: it enters with the second block, and PHYT is back with the fifth
 table Delayed =
@@ -176,4 +200,27 @@ table Refused =
 table Told =
     row (spelt (after 0 0 (first ++ (ok ++ (reads 4 ++ reads 9))) .b .host .taken))
     (0xABC ∷ 0x1122 ∷ 0 ∷ 0 ∷ 0 ∷ 0 ∷ 0 ∷ 0 ∷ 0x8877 ∷ [])
+    ∷ []
+-- by the rule: a take with slots and other calls between; word 9 again, before the last word or where bit 15 is clear.
+-- Not: word 10 first; word 11 next after word 9; on where bit 15 is clear; word 17 twice. The other host is not asked
+table Ruled =
+    row
+    (map (byRule aToB)
+    ((first ++ (ok ++ (reads 4 ++ (ok ++ (others ++ drop 4 (reads 9))))))
+    ∷ (first ++ (ok ++ (reads 4 ++ reads 9)))
+    ∷ (reads 1 ++ reads 1)
+    ∷ (first ++ (ok ++ (atB (read 10) ∷ [])))
+    ∷ (first ++ (ok ++ (atB (read 9) ∷ atB (read 11) ∷ [])))
+    ∷ reads 2
+    ∷ (first ++ (ok ++ (reads 9 ++ (atB (read 17) ∷ []))))
+    ∷ (atA (read 17) ∷ [])
+    ∷ []))
+    (1 ∷ 1 ∷ 1 ∷ 0 ∷ 0 ∷ 0 ∷ 0 ∷ 1 ∷ [])
+    ∷ row (map (byRule bToA) ((atA (read 17) ∷ []) ∷ (atB (read 17) ∷ []) ∷ puts 0x8000 (omega arith) ∷ []))
+    (0 ∷ 1 ∷ 1 ∷ [])
+    ∷ []
+-- calls are never bad, and a spoilt block counts where it arrives: at b not in the first slot
+table Unharmed =
+    row (map unharmed ((first ++ (ok ++ (reads 2 ++ (others ++ ok)))) ∷ atFar ∷ (ok ++ atFar) ∷ atNear ∷ []))
+    (1 ∷ 1 ∷ 0 ∷ 0 ∷ [])
     ∷ []

@@ -4,3 +4,4 @@ pub mod Status
 pub mod LogFacts
 pub mod Tight
 pub mod Cases
+pub mod Means

@@ -1,8 +1,10 @@
 -- What else is true after every run: the log is the ends' own account, and toggles tell how many messages there were.
 --   LogFacts, LogsTrue   of what one side logs, and the other; after every run, both ways, whatever the hosts do
+--   ReadFacts, ReadsTrue   by the rule: the sent MERT and the receive toggle
 --   EnteredIs            by the rule, what entered is what was taken and what stands in the receive words
 -- Assumes nothing.
 use Prim.Native.Nat.{suc, _≤_}
+use mathlib.Core.Bool.{true}
 use mathlib.Core.List.{_++_}
 use mathlib.Core.Path.{_≡_}
 use lib.ListN.{length}
@@ -27,3 +29,10 @@ LogsTrue = Always LogFacts
 
 abbrev pub EnteredIs : Type 0
 EnteredIs = ByRule (λ near far. far .log .entered ≡ far .host .taken ++ registerHolds far)
+
+pub record ReadFacts (near far : Side) : Type 0 where
+  pub sent-mert : far .end .sent .mert ≡ odd (length (far .host .taken))
+  pub toggle : far .end .receive .rxval ≡ true → far .end .receive .toggle ≡ odd (length (far .log .entered))
+
+abbrev pub ReadsTrue : Type 0
+ReadsTrue = ByRule ReadFacts

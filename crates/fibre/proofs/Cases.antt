@@ -5,17 +5,20 @@
 --   reset-*     after reset all is 0
 --   first-*     a message on its way from one end to the other after reset, and what both hosts read
 --   second-*    the next message, while the first one is not read yet
+--   calls-*     calls in a row
 -- Assumes nothing.
 use mathlib.Core.Bool.{Bool, true, false, not, _||_}
 use Prim.Native.Nat.{ℕ}
 use mathlib.Core.List.{List, [], _∷_, _++_, map}
 use mathlib.Core.Path.{_≡_, refl}
+use native.Mathlib.Omega.{arith}
 use lib.Dec.{eqb}
 use lib.ListN.{getD, replicate}
 use Rattle.answer.specs.Number.{numberOf}
 use Rattle.crc.specs.Bits.{odd}
 use Rattle.fibre.specs.declared.End.{End}
 use Rattle.fibre.specs.declared.Next.{Next}
+use Rattle.fibre.specs.Calls.{Call, calls, reached}
 use Rattle.fibre.specs.Good.{bad, resetOf}
 use Rattle.fibre.specs.Sending.{sendOf}
 use Rattle.fibre.specs.Taking.{takeOf}
@@ -184,6 +187,12 @@ whole-sent : map (λ b. numbers (sendOf (worked b) .end)) (none ∷ two 0 1 ∷ 
 unfolding bad sendOf
 whole-sent = refl
 
+-- the second message loads as the first one did: MSGT falls
+whole-falls : numbers (sendOf (worked (λ n. two 0 1 n || eqb n 3)) .end)
+    ≡ 0x40 ∷ 0x123 ∷ 0x123 ∷ 0x789 ∷ (eight 0x1000 ++ (eight 0x1000 ++ eight 0x3000))
+unfolding bad sendOf
+whole-falls = refl
+
 -- where nothing is requested the same block goes out again
 whole-again : listed (sendOf (worked none) .block) ≡ 0 ∷ 0x456 ∷ eight 0x2000
 unfolding bad sendOf
@@ -196,6 +205,12 @@ whole-taken :
     ∷ still 0x48 three ∷ still 0x42 three ∷ []
 unfolding bad takeOf
 whole-taken = refl
+
+-- the second message is stored as the first one was, its MSGT being 0
+whole-other : numbers (takeOf (worked (alone 4)) false (brought false false true) .end)
+    ≡ 0x22 ∷ 0x123 ∷ 0x456 ∷ 0xABC ∷ (eight 0x1000 ++ (eight 0x2000 ++ eight 0x4000))
+unfolding bad takeOf
+whole-other = refl
 
 whole-marked : numbers (takeOf (worked none) true (brought true true true) .end) ≡ still 0x00 three
 unfolding bad takeOf
@@ -380,3 +395,24 @@ third =
 second-taken : readOf third 0 .value ≡ 0x3111
 unfolding bad sendOf takeOf readOf writeOf odd
 second-taken = refl
+
+-- Calls in a row, from reset: each does what it does alone, a block that is marked bad nothing
+
+abbrev loading : List Call
+loading = Call.write 0 0x8ABC (omega arith) ∷ Call.send ∷ Call.take true (brought true true true) ∷ []
+
+abbrev storing : List Call
+storing = loading ++ (Call.take false (brought true true false) ∷ [])
+
+calls-loading : numbers (reached loading) ≡ 0x10 ∷ 0xABC ∷ 0xABC ∷ 0 ∷ replicate 24 0
+unfolding reached calls bad sendOf takeOf writeOf odd
+calls-loading = refl
+
+calls-storing : numbers (reached storing) ≡ 0x5B ∷ 0xABC ∷ 0xABC ∷ 0xABC ∷ (replicate 16 0 ++ eight 0x4000)
+unfolding reached calls bad sendOf takeOf writeOf odd
+calls-storing = refl
+
+calls-reading : numbers (reached (storing ++ (Call.read 17 ∷ [])))
+    ≡ 0x5D ∷ 0xABC ∷ 0xABC ∷ 0xABC ∷ (replicate 16 0 ++ eight 0x4000)
+unfolding reached calls bad sendOf takeOf readOf writeOf odd
+calls-reading = refl

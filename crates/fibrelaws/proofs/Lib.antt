@@ -4,4 +4,5 @@ pub mod Answers
 pub mod Reached
 pub mod Does
 pub mod Identical
+pub mod Contracts
 pub mod Determined

@@ -15,7 +15,7 @@ use Rattle.fibre.specs.Good.{bad}
 use Rattle.fibre.specs.Sending.{sendOf}
 use Rattle.fibre.specs.Taking.{takeOf}
 use Rattle.fibre.specs.Words.{readOf, writeOf}
-use Rattle.joined.specs.Joined.{aToB, runBy, every}
+use Rattle.joined.specs.Joined.{aToB, runBy, every, slots}
 use Rattle.fibrelink.specs.Link.{Message, Side, resetWorld, taking, Event, run, ruled}
 use Rattle.fibrelink.specs.Demand.{wordZero, noneBad, AllSaid}
 use Rattle.fibrelink.specs.Tight.{crowding, MostTight}
@@ -26,7 +26,7 @@ use Rattle.fibrelink.specs.Cases.{puts, first, reads, ok, atFar, atNear,
 use Rattle.fibrelink.specs.Status.{Row, rowOf, Reaches, NoMore, NotDenied}
 
 pub cases : (c : Case) → Agree (table c)
-unfolding table runBy every taking noneBad bad odd sendOf takeOf readOf writeOf
+unfolding table runBy every slots taking noneBad bad odd sendOf takeOf readOf writeOf
 cases Request = (refl, tt)
 cases Sent = (refl, (refl, tt))
 cases Read = (refl, (refl, (refl, (refl, (refl, tt)))))
@@ -39,7 +39,7 @@ cases Delayed = (refl, (refl, (refl, (refl, tt))))
 cases Refused = (refl, (refl, (refl, tt)))
 cases Told = (refl, tt)
 cases Ruled = (refl, (refl, tt))
-cases Unharmed = (refl, tt)
+cases Unharmed = (refl, (refl, tt))
 
 -- received and not read: not all is said, since MERT does not equal MSGT
 not-all-said : AllSaid (wordZero (after 0 0 (first ++ (ok ++ ok)) .a)) → ⊥

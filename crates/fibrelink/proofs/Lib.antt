@@ -6,6 +6,7 @@ pub mod Kept
 pub mod Shapes
 pub mod Shown
 pub mod Took
+pub mod Rule
 pub mod Demanded
 pub mod InTime
 pub mod NotSooner

@@ -1,26 +1,29 @@
 -- What the premises and tests come to: the statements of specs/Means.antt.
---   idle-is, said-is, just-one, just-true, nth-accepted
+--   idle-is, said-is, just-one, just-true, told-most, nth-accepted
+--   above, same-waits   what is true of a message is no more than what is just so; one of two answers
+--   told-of             a run in which just so much is so as its row says tells no more
 -- Assumes nothing.
 use Prim.{tt}
-use Prim.Native.Nat.{ℕ, _+_}
-use mathlib.Core.Bool.{Bool, true, false, Bool·beq, false≢true}
+use Prim.Native.Nat.{ℕ, suc, _+_, _-_, _≤_}
+use mathlib.Core.Bool.{Bool, true, false, cond, Bool·beq, false≢true}
 use mathlib.Core.List.{List, _∷_, _++_, append-assoc}
 use mathlib.Core.Logic.{_↔_}
 use mathlib.Core.Path.{_≡_, refl, sym, ap, subst, _∙_}
 use native.Mathlib.Omega.{arith}
 use lib.ListN.{length, length-append}
-use Rattle.joined.specs.Joined.{near, far}
+use Rattle.joined.specs.Joined.{aToB, near, far}
 use Rattle.protocol.specs.Steps.{num}
-use Rattle.fibrelink.specs.Link.{Message, Side, World, resetWorld}
+use Rattle.fibrelink.specs.Link.{Message, Side, World, resetWorld, run}
 use Rattle.fibrelink.specs.Demand.{Idle, wordZero, inFlight, pendingIn, registerHolds}
-use Rattle.fibrelink.specs.Status.{Known, notKnown, entered, taken, Row, row, table, Just}
-use Rattle.fibrelink.specs.Means.{IdleIs, SaidIs, JustOne, JustTrue, NthAccepted}
+use Rattle.fibrelink.specs.Status.{Known, notKnown, entered, taken, Row, row, table, True, Told, Reaches, Just}
+use Rattle.fibrelink.specs.Means.{IdleIs, SaidIs, JustOne, JustTrue, NthAccepted, rank, AtMost, ToldMost}
 use Rattle.fibrelink.proofs.Flight.{Stamp}
 use Rattle.fibrelink.proofs.Chain.{heard-entered, entered-loaded}
 use Rattle.fibrelink.proofs.Way.{Way}
 use Rattle.fibrelink.proofs.Shown.{Zero, word-zero}
 use Rattle.fibrelink.proofs.Kept.{reset-kept, run-kept}
-use Rattle.fibrelink.proofs.Demanded.{accepted-count, logs-true, entered-is}
+use Rattle.fibrelink.proofs.Demanded.{accepted-count, logs-true, entered-is, table-two}
+use Rattle.fibrelink.proofs.Computed.{no-more}
 
 -- Bools
 
@@ -134,6 +137,61 @@ pub just-true : JustTrue
 just-true notKnown i far h = tt
 just-true entered i far h = h .1
 just-true taken i far h = h
+
+-- Told
+
+above : (j k : Known) (i : ℕ) (far : Side) → length (far .host .taken) ≤ length (far .log .entered) → True k i far
+    → Just j i far → rank k ≤ rank j
+above j notKnown i far h x y = omega arith
+above notKnown entered i far h x y = absurd (omega (arith, x, y))
+above entered entered i far h x y = omega arith
+above taken entered i far h x y = omega arith
+above notKnown taken i far h x y = absurd (omega (arith, h, x, y))
+above entered taken i far h x y = absurd (omega (arith, x, y .0))
+above taken taken i far h x y = omega arith
+
+same-waits : (x y : Bool) (l n : ℕ) → l ≡ cond x (suc n) n → l ≡ cond y (suc n) n → x ≡ y
+same-waits true true l n p q = refl
+same-waits true false l n p q = absurd (omega (arith, p, q))
+same-waits false true l n p q = absurd (omega (arith, p, q))
+same-waits false false l n p q = refl
+
+told-of : (t p m : Bool) → Reaches (table t p m) (λ near far. Just (table t p m .sending) (near .log .loadCount) far
+    × Just (table t p m .before) (near .log .loadCount - 1) far)
+    → Reaches (table t p m) (λ near far. (r : Row) → Told r near far → AtMost r (table t p m))
+told-of t p m k = record {
+  D = k .D;
+  E = k .E;
+  events = k .events;
+  by-rule = k .by-rule;
+  second = k .second;
+  row-is = k .row-is;
+  shows = λ r x. record {
+    waits =
+        same-waits (r .waits) (table t p m .waits) (length (w .a .host .accepted)) (w .a .log .loadCount) (x .waiting)
+        (own .waiting);
+    sending = above (table t p m .sending) (r .sending) (w .a .log .loadCount) (w .b) few (x .sending) (k .shows .0);
+    before = above (table t p m .before) (r .before) (w .a .log .loadCount - 1) (w .b) few (x .before) (k .shows .1);
+  };
+}
+  where
+    w : World
+    w = run (k .D) (k .E) (k .events) resetWorld
+
+    -- what the row itself says
+    own : Told (table t p m) (w .a) (w .b)
+    own =
+        subst (λ (s : Row). Told s (w .a) (w .b)) (k .row-is)
+        (table-two aToB (k .D) (k .E) (k .events) (k .by-rule) w refl)
+
+    few : length (w .b .host .taken) ≤ length (w .b .log .entered)
+    few =
+        let a = ap (λ (l : List Message). length l) (entered-is aToB (k .D) (k .E) (k .events) (k .by-rule) w refl) in
+        let b = length-append (w .b .host .taken) (registerHolds (w .b)) in
+        omega (arith, a, b)
+
+pub told-most : ToldMost
+told-most t p m = told-of t p m (no-more t p m)
 
 -- Entered
 

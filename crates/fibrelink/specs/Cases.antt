@@ -27,7 +27,7 @@ use Rattle.weights.specs.Weights.{bit}
 use Rattle.fibre.specs.Good.{noBlock}
 use Rattle.fibre.specs.Words.{readOf}
 use Rattle.fibre.specs.Worked.{listed}
-use Rattle.joined.specs.Joined.{Direction, aToB, bToA, slot, atA, atB}
+use Rattle.joined.specs.Joined.{Direction, aToB, bToA, slot, atA, atB, slots}
 use Rattle.fibrelink.specs.Demand.{held, good}
 use Rattle.fibrelink.specs.Link.{Message, World, resetWorld, read, write, sound, spoilt, Arrival, arriving, Event}
 use Rattle.fibrelink.specs.Link.{run, ruled}
@@ -202,7 +202,8 @@ table Told =
     (0xABC ∷ 0x1122 ∷ 0 ∷ 0 ∷ 0 ∷ 0 ∷ 0 ∷ 0 ∷ 0x8877 ∷ [])
     ∷ []
 -- by the rule: a take with slots and other calls between; word 9 again, before the last word or where bit 15 is clear.
--- Not: word 10 first; word 11 next after word 9; on where bit 15 is clear; word 17 twice. The other host is not asked
+-- Not: word 10 first; word 11 next after word 9; on where bit 15 is clear; word 17 twice. The other host is not asked.
+-- Spoilt blocks are no matter of it, nor is where in a take other calls fall
 table Ruled =
     row
     (map (byRule aToB)
@@ -214,13 +215,22 @@ table Ruled =
     ∷ reads 2
     ∷ (first ++ (ok ++ (reads 9 ++ (atB (read 17) ∷ []))))
     ∷ (atA (read 17) ∷ [])
+    ∷ (first ++ (atFar ++ (atNear ++ ok)))
+    ∷ (others ++ (first ++ (ok ++ (reads 1 ++ (others ++ (reads 3 ++ (reads 8 ++ (others ++ drop 8 (reads 9)))))))))
     ∷ []))
-    (1 ∷ 1 ∷ 1 ∷ 0 ∷ 0 ∷ 0 ∷ 0 ∷ 1 ∷ [])
-    ∷ row (map (byRule bToA) ((atA (read 17) ∷ []) ∷ (atB (read 17) ∷ []) ∷ puts 0x8000 (omega arith) ∷ []))
-    (0 ∷ 1 ∷ 1 ∷ [])
+    (1 ∷ 1 ∷ 1 ∷ 0 ∷ 0 ∷ 0 ∷ 0 ∷ 1 ∷ 1 ∷ 1 ∷ [])
+    ∷ row
+    (map (byRule bToA)
+    ((atA (read 17) ∷ [])
+    ∷ (atB (read 17) ∷ [])
+    ∷ puts 0x8000 (omega arith)
+    ∷ (others ++ (ok ++ (atA (read 9) ∷ atA (read 10) ∷ atA (read 11) ∷ [])))
+    ∷ []))
+    (0 ∷ 1 ∷ 1 ∷ 1 ∷ [])
     ∷ []
--- calls are never bad, and a spoilt block counts where it arrives: at b not in the first slot
+-- calls are never bad, and a spoilt block counts where it arrives: at b not in the first slot. Calls are no slots
 table Unharmed =
     row (map unharmed ((first ++ (ok ++ (reads 2 ++ (others ++ ok)))) ∷ atFar ∷ (ok ++ atFar) ∷ atNear ∷ []))
     (1 ∷ 1 ∷ 0 ∷ 0 ∷ [])
+    ∷ row (slots (first ++ (ok ++ (others ++ ok))) ∷ []) (2 ∷ [])
     ∷ []

@@ -1,4 +1,5 @@
 pub mod Link
+pub mod Rule
 pub mod Demand
 pub mod Status
 pub mod LogFacts

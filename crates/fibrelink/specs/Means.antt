@@ -5,17 +5,21 @@
 --   SaidIs        what AllSaid says of a value is the first row of table 2, of every value
 --   JustOne       after every run by the rule two different things are not just so of one message
 --   JustTrue      what is just so is true
+--   rank          more is known of a message by more
+--   AtMost r s    row r says no more than row s, and the same of message K + 1
+--   ToldMost      in every row there is a run after which no row is told that says more
 --   NthAccepted   after every run message n that entered, which is m, is message n accepted
 -- Assumes nothing.
-use Prim.Native.Nat.{ℕ}
-use mathlib.Core.Bool.{false}
+use Prim.Native.Nat.{ℕ, _≤_}
+use mathlib.Core.Bool.{Bool, false}
 use mathlib.Core.List.{List, _∷_, _++_}
 use mathlib.Core.Logic.{_↔_}
 use mathlib.Core.Path.{_≡_}
 use lib.ListN.{length}
 use Rattle.fibrelink.specs.Link.{Message, Side}
 use Rattle.fibrelink.specs.Demand.{ByRule, Always, Idle, AllSaid, Entered}
-use Rattle.fibrelink.specs.Status.{Known, taken, row, rowOf, True, Just}
+use Rattle.fibrelink.specs.Status.{Known, notKnown, entered, taken, Row, row, rowOf, table, True, Told, Reaches}
+use Rattle.fibrelink.specs.Status.{Just}
 
 abbrev pub IdleIs : Type 0
 IdleIs =
@@ -30,6 +34,19 @@ JustOne = ByRule (λ near far. (j k : Known) (i : ℕ) → Just j i far → Just
 
 abbrev pub JustTrue : Type 0
 JustTrue = (k : Known) (i : ℕ) (far : Side) → Just k i far → True k i far
+
+abbrev pub rank : Known → ℕ
+rank notKnown = 0
+rank entered = 1
+rank taken = 2
+
+pub record AtMost (r s : Row) : Type 0 where
+  pub waits : r .waits ≡ s .waits
+  pub sending : rank (r .sending) ≤ rank (s .sending)
+  pub before : rank (r .before) ≤ rank (s .before)
+
+abbrev pub ToldMost : Type 0
+ToldMost = (t p m : Bool) → Reaches (table t p m) (λ near far. (r : Row) → Told r near far → AtMost r (table t p m))
 
 abbrev pub NthAccepted : Type 0
 NthAccepted =

@@ -25,7 +25,7 @@ use Rattle.link.specs.Link.{Message, Side, aToB, bytesOf, messageWritten
 use Rattle.link.specs.Demand.{slots, Landed}
 use Rattle.link.specs.Tight.{quiet, sixteen, oneSlot, asked, short, late, TooSoon, BoundTight, crowded}
 use Rattle.link.specs.Tight.{MostTight}
-use Rattle.link.specs.Rule.{looked, took, begun}
+use Rattle.joined.specs.Rule.{readsFrom, looked, took, begun}
 use Rattle.link.specs.Cases.{five, Cases}
 
 -- message 1 is not five
@@ -42,7 +42,7 @@ second-other {far = far} e t = five-zero (sym (ap (λ (m : Message). m .number) 
         ∙ getD-append-seam (t .entered .0) five (t .entered .1) five
 
 pub cases : Cases
-unfolding runBy every taking bytesOf slots noneMarked
+unfolding runBy every taking bytesOf readsFrom slots noneMarked
     above bad readOf writeOf healthOf sendOf acked frameStart taken takeOf
     odd xor bits number oddOnes plus times shift fed crc
     generator stream crcOf even evenSymbol oddSymbol symbols build crcRight
@@ -88,7 +88,8 @@ cases = record {
   out-of-order = refl;
   others-ruled = refl;
   others-between = refl;
-  by-document = took 0x8500 1 2 3 4 refl (looked 0x500 refl (begun 2 0x8500 1 0 0 refl));
+  by-document =
+      took 0x8500 (1 ∷ 2 ∷ 3 ∷ 4 ∷ []) refl refl (looked 0x500 refl (begun 0x8500 (1 ∷ []) refl (omega arith)));
   not-asked = refl;
   near-free = refl;
   near-asked = refl;

@@ -26,7 +26,7 @@ use Rattle.link.specs.Link.{Message, Side, World, resetSide, resetWorld,
 use Rattle.link.specs.Link.{withHost, hosted}
 use Rattle.link.specs.Link.{health, present, Harm, sound, mark, Event, slot, atA, atB, run, ruled}
 use Rattle.link.specs.Demand.{Idle, unmarked, slots, bound, controlValue, Landed}
-use Rattle.link.specs.Rule.{gave, Takes}
+use Rattle.joined.specs.Rule.{gave, Takes}
 use Rattle.link.specs.Tight.{sixteen, quiet, writes}
 
 abbrev pub five : Message
@@ -151,7 +151,7 @@ pub record Cases : Type 0 where
       run 0 0 (firstReads 2 ++ (quiet 1 ++ (others ++ drop 2 (firstReads 5)))) (later 12 0) .b .host .taken ≡ five ∷ []
   -- document 01's own rule has takes, one behind the other, and looks without a message
   pub by-document :
-      Takes false
+      Takes false 2313 4
       (gave 2313 0x8500 ∷ gave 2314 1 ∷ gave 2315 2 ∷ gave 2316 3 ∷ gave 2317 4
       ∷ gave 2313 0x500 ∷ gave 2313 0x8500 ∷ gave 2314 1 ∷ [])
   -- it asks nothing of b's host for the messages that a's host takes, nor the other way round

@@ -3,7 +3,7 @@
 --   CALL-any     any arguments may come
 --   CALL-gives   what the contract allows is what the definition gives
 -- Assumes nothing.
-use Prim.{Unit, tt}
+use Prim.{tt}
 use Rattle.laws.specs.Contract.{Any, Gives}
 use Rattle.fibre.specs.Good.{resetOf}
 use Rattle.fibre.specs.Sending.{sendOf}

@@ -5,19 +5,19 @@
 --   rule-is, document-is, not-anew, taken-is   the statements
 -- Assumes nothing.
 use Prim.Native.Nat.{ℕ, _≤_}
-use mathlib.Core.Bool.{Bool, true, false, cond, _&&_}
+use mathlib.Core.Bool.{true, false, _&&_}
 use mathlib.Core.List.{List, [], _∷_, _++_}
-use mathlib.Core.Path.{_≡_, refl, ap, _∙_}
+use mathlib.Core.Path.{_≡_, refl}
 use native.Mathlib.Omega.{arith}
 use lib.Dec.{eqb}
 use Rattle.fibre.specs.Words.{readOf}
-use Rattle.joined.specs.Joined.{Direction, aToB, bToA, far, HostOf}
-use Rattle.joined.specs.Rule.{ReadOut, Takes}
+use Rattle.joined.specs.Joined.{Direction, aToB, bToA, far}
+use Rattle.joined.specs.Rule.{ReadOut}
 use Rattle.joined.proofs.Rule.{inOrder, not-again, anew-too, messagesBy}
 use Rattle.joined.proofs.RunRule.{read-order, read-messages, rule-words, taken-words}
-use Rattle.fibrelink.specs.Link.{Message, Host, Side, World, resetWorld, Access, read, write, ruledCall, gathered}
-use Rattle.fibrelink.specs.Link.{hosted, sends, Harm, arriving, Arrival, taking, takesFrom, Event}
-use Rattle.fibrelink.specs.Rule.{readsBy, reads, firstWord, moreWords, messageRead, RuleIs, DocumentIs, NotAnew}
+use Rattle.fibrelink.specs.Link.{Message, Side, resetWorld, Access, read, write, ruledCall, gathered}
+use Rattle.fibrelink.specs.Link.{hosted, sends, Harm, arriving, Arrival, taking, takesFrom}
+use Rattle.fibrelink.specs.Rule.{readsBy, firstWord, moreWords, messageRead, RuleIs, DocumentIs, NotAnew}
 use Rattle.fibrelink.specs.Rule.{TakenIs}
 
 some : 1 ≤ moreWords

@@ -5,5 +5,6 @@ pub mod Taking
 pub mod Registers
 pub mod Names
 pub mod Calls
+pub mod Message
 pub mod Shape
 pub mod Worked

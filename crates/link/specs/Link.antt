@@ -1,7 +1,7 @@
 -- Two ends joined by two lines, each with its host. This page says what a run is; Demand.antt says what is demanded of
 -- every run. Crate joined has what is the same for any kind of ends: directions, lines, events, and what a host has.
 -- The delays are D slots from a to b and E slots from b to a.
---   Message       a number and eight bytes; messageIn: the one in the receive register
+--   Message       a number and eight bytes, of crate end; messageIn: the one in the receive register
 --   Host          what a host did and was answered
 --   Log           what happens in an end, for the statements alone: messages loaded, acknowledged, entered, and how
 --                 many were acknowledged when 3.2308 was last read
@@ -10,7 +10,7 @@
 --   Access, hosted   what a host may call between slots; a side after such a call; withHost, with another end and host
 --   ruledCall     the rule for taking a message; Rule.antt says it in document 01's words
 --   receiveSide, messageSide   of a register number
---   halves v, bytesOf   the two bytes of a register's value, 7:0 first; those of several
+--   bytesOf       the bytes of several values, of each the two halves, 7:0 first
 --   gathered, advance   what a host has after a receive-side read
 --   didRead, readLog   what a host has after a read; the log
 --   accepts, stores   a write that was answered 0, or not, accepts a message, stores message bytes
@@ -32,7 +32,9 @@ use mathlib.Core.List.{List, [], _∷_, _++_, map}
 use lib.Dec.{eqb}
 use lib.ListN.{replicate}
 use Rattle.answer.specs.Number.{numberOf}
+pub use Rattle.weights.specs.Weights.{halves}
 use Rattle.end.specs.declared.End.{End}
+pub use Rattle.end.specs.Message.{Message}
 use Rattle.end.specs.Good.{resetOf}
 use Rattle.end.specs.Sending.{acked, stepOne, loads, sendOf}
 use Rattle.receiver.specs.Receiving.{saidBy, placed, enters, accepts as acceptsFrame}
@@ -41,10 +43,6 @@ use Rattle.end.specs.Registers.{readOf, writeOf, healthOf}
 use Rattle.joined.specs.Joined.{HostOf, within, mayRead, advanceOf, didReadOf, wroteOf, due, stepBy, ruledBy}
 pub use Rattle.joined.specs.Joined.{Pair, Direction, aToB, bToA, near, far, EventOf, slot, atA, atB, also, bit15}
 unfoldable pub use Rattle.joined.specs.Joined.{runBy, every}
-
-pub record Message : Type 0 where
-  pub number : ℕ
-  pub bytes : List ℕ
 
 abbrev pub Host : Type 0
 Host = HostOf Message
@@ -105,9 +103,6 @@ ruledCall (read r) h = mayRead 2313 2317 (h .stage) r
 ruledCall (write r v l) h = true
 ruledCall (health k) h = true
 ruledCall present h = true
-
-abbrev pub halves : ℕ → List ℕ
-halves v = v % 256 ∷ v / 256 ∷ []
 
 unfoldable pub bytesOf : List ℕ → List ℕ
 bytesOf [] = []

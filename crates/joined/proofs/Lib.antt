@@ -1,2 +1,3 @@
 pub mod Rule
 pub mod RunRule
+pub mod Runs

@@ -7,7 +7,8 @@
 --                 many were acknowledged when 3.2308 was last read
 --   Side, World   an end with all that it has sent (newest first), its host and its log; two of them
 --   resetSide, resetWorld   before anything is called or sent
---   Access, hosted   what a host may call between slots; a side after such a call; withHost, with another end and host
+--   Access, hosted   what a host may call between slots; a side after such a call, written: after a write; withHost,
+--                 with another end and host
 --   ruledCall     the rule for taking a message; Rule.antt says it in document 01's words
 --   receiveSide, messageSide   of a register number
 --   bytesOf       the bytes of several values, of each the two halves, 7:0 first
@@ -157,6 +158,11 @@ acceptsNow r v e = accepts r v (answered0 r v e)
 abbrev pub withHost : Side → End → Host → Side
 withHost s e h = record { end = e; sent = s .sent; host = h; log = s .log }
 
+abbrev pub written : ℕ → ℕ → Side → Side
+written r v s =
+    withHost s (writeOf (s .end) r v .end)
+    (wrote (acceptsNow r v (s .end)) (stores r (answered0 r v (s .end))) r v (s .host))
+
 abbrev pub hosted : Access → Side → Side
 hosted (read r) s = record {
   end = readOf (s .end) r .end;
@@ -164,9 +170,7 @@ hosted (read r) s = record {
   host = didRead r (readOf (s .end) r .value) (s .host);
   log = readLog r (s .log);
 }
-hosted (write r v l) s =
-    withHost s (writeOf (s .end) r v .end)
-    (wrote (acceptsNow r v (s .end)) (stores r (answered0 r v (s .end))) r v (s .host))
+hosted (write r v l) s = written r v s
 hosted (health k) s = withHost s (healthOf (s .end) k .end) (s .host)
 hosted present s = s
 

@@ -1,0 +1,3 @@
+pub mod Stretches
+pub mod Taken
+pub mod Carried

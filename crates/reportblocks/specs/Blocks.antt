@@ -1,0 +1,82 @@
+-- Blocks as messages, and messages as blocks.
+--   IsBlock b           128 bytes
+--   counting k n        n numbers from k on: k, k + 1 and so on
+--   messageOf b n       number n of the block b: it carries bytes 8n to 8n + 7
+--   messagesOf b        all sixteen of them, 0 to 15; messagesOfAll: those of several blocks, one block behind another
+--   Eight ms            each of the messages ms has eight bytes
+--   givenBy h ms        the blocks that the taking host h hands over for the messages ms, taken one by one
+--   hostAfter h ms      the host after them
+--   inTurnFrom k n ms   the first n of the messages ms are there, and have the numbers k, k + 1 and so on
+--   joined ms           the bytes of the messages ms, one behind the other
+--   stretches ms        the bytes of sixteen messages with the numbers 0 to 15, with nothing between them: for every
+--                       place of ms where such a stretch begins, in order
+-- Assumes nothing.
+use Prim.Native.Nat.{ℕ, zero, suc, _*_}
+use mathlib.Core.Bool.{Bool, true, false, cond, _&&_}
+use mathlib.Core.List.{List, [], _∷_, _++_, map}
+use mathlib.Core.Path.{_≡_}
+use lib.Dec.{eqb}
+use lib.ListN.{length, take, drop}
+use Rattle.laws.specs.Above.{above}
+use Rattle.end.specs.Message.{Message}
+use Rattle.report.specs.declared.TakingHost.{TakingHost}
+use Rattle.report.specs.declared.Take.{Take}
+use Rattle.report.specs.declared.Take.the-variants.{Part, Out, Whole}
+use Rattle.report.specs.Taking.{takeOf}
+
+pub record IsBlock (b : List ℕ) : Type 0 where
+  pub size : length b ≡ 128
+  pub bytes : above 255 b ≡ false
+
+-- A block as messages
+
+abbrev pub counting : ℕ → ℕ → List ℕ
+counting k zero = []
+counting k (suc n) = k ∷ counting (suc k) n
+
+abbrev pub messageOf : List ℕ → ℕ → Message
+messageOf b n = record { number = n; bytes = take 8 (drop (8 * n) b) }
+
+abbrev pub messagesOf : List ℕ → List Message
+messagesOf b = map (messageOf b) (counting 0 16)
+
+unfoldable pub messagesOfAll : List (List ℕ) → List Message
+messagesOfAll [] = []
+messagesOfAll (b ∷ bs) = messagesOf b ++ messagesOfAll bs
+
+-- Messages taken
+
+abbrev pub Eight : List Message → Type 0
+Eight [] = Unit {0}
+Eight (m ∷ ms) = (length (m .bytes) ≡ 8) × Eight ms
+
+abbrev pub handedOver : Take → List ℕ → List (List ℕ)
+handedOver (Part n) b = []
+handedOver (Out n) b = []
+handedOver Whole b = b ∷ []
+
+unfoldable pub givenBy : TakingHost → List Message → List (List ℕ)
+givenBy h [] = []
+givenBy h (m ∷ ms) =
+    handedOver (takeOf h (m .number) (m .bytes) .what) (takeOf h (m .number) (m .bytes) .block)
+    ++ givenBy (takeOf h (m .number) (m .bytes) .host) ms
+
+unfoldable pub hostAfter : TakingHost → List Message → TakingHost
+hostAfter h [] = h
+hostAfter h (m ∷ ms) = hostAfter (takeOf h (m .number) (m .bytes) .host) ms
+
+-- Stretches of sixteen
+
+unfoldable pub inTurnFrom : ℕ → ℕ → List Message → Bool
+inTurnFrom k zero ms = true
+inTurnFrom k (suc n) [] = false
+inTurnFrom k (suc n) (m ∷ ms) = eqb (m .number) k && inTurnFrom (suc k) n ms
+
+unfoldable pub joined : List Message → List ℕ
+joined [] = []
+joined (m ∷ ms) = m .bytes ++ joined ms
+
+unfoldable pub stretches : List Message → List (List ℕ)
+stretches [] = []
+stretches (m ∷ ms) =
+    cond (inTurnFrom 0 16 (m ∷ ms)) (joined (take 16 (m ∷ ms)) ∷ stretches ms) (stretches ms)

@@ -1,0 +1,1 @@
+// Specs and proofs only: blocks carried as messages, whatever carries these.

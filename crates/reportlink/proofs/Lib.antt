@@ -1,0 +1,5 @@
+pub mod Accesses
+pub mod Pushing
+pub mod Pulling
+pub mod Hosting
+pub mod Reported

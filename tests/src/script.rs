@@ -109,10 +109,12 @@ impl<C: Console> Script<C> {
     }
 }
 
-/// `dump` and `set` look at an end or change it, but are no calls of document 01.
+/// `dump` and `set` look at an end or change it, but are no calls of document 01; `offer` and `report` meet no end.
+const NO_CALLS: [&[u8]; 4] = [b"dump", b"set", b"offer", b"report"];
+
 fn is_call(line: &[u8]) -> bool {
     let on_an_end = line.starts_with(b"a ") || line.starts_with(b"b ");
-    on_an_end && !line[2..].starts_with(b"dump") && !line[2..].starts_with(b"set")
+    on_an_end && !NO_CALLS.iter().any(|name| line[2..].starts_with(name))
 }
 
 /// The first printed line in which two outputs differ. What follows `? ` is free.

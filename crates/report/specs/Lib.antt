@@ -1,2 +1,4 @@
 pub mod Sending
 pub mod Taking
+pub mod Counting
+pub mod Worked

@@ -49,6 +49,7 @@ impl SendingHost {
         let block = self.block;
         let next = self.next;
         if next < PARTS {
+            let following = next + 1;
             let written = written(block, next, end);
             let answer = written.answer;
             let after = written.end;
@@ -57,7 +58,7 @@ impl SendingHost {
                     what: Push::Part(next),
                     host: SendingHost {
                         block,
-                        next: next + 1,
+                        next: following,
                     },
                     end: after,
                 };
@@ -65,7 +66,7 @@ impl SendingHost {
             let what = refusal(answer);
             return Pushed {
                 what,
-                host: self,
+                host: SendingHost { block, next },
                 end: after,
             };
         }

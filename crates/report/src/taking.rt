@@ -47,7 +47,10 @@ impl TakingHost {
         Taken {
             what: Take::Out(number),
             block: [0; 128],
-            host: TakingHost::fresh(),
+            host: TakingHost {
+                block: [0; 128],
+                turn: 0,
+            },
         }
     }
 

@@ -4,7 +4,7 @@
 --   carried         the blocks handed over are the first so many offered, at most two fewer
 --   carried-tight   and not at most one
 -- Assumes nothing.
-use Prim.Native.Nat.{ℕ, zero, suc, _+_, _*_, _≤_, _<_}
+use Prim.Native.Nat.{ℕ, zero, suc, _+_, _*_, _≤_}
 use mathlib.Core.Bool.{Bool, true, false}
 use mathlib.Core.List.{List, [], _∷_, _++_, append-assoc, map}
 use mathlib.Core.Path.{_≡_, refl, sym, ap, _∙_}
@@ -16,10 +16,10 @@ use borrow.Author.Tests.{ltb-true, ltb-false}
 use Rattle.laws.specs.Above.{above}
 use Rattle.joined.specs.Joined.{InTurn}
 use Rattle.end.specs.Message.{Message}
-use Rattle.report.specs.Taking.{freshTaking, takeOf}
-use Rattle.reportblocks.specs.Blocks.{IsBlock, counting, messageOf, messagesOf, messagesOfAll, Eight, givenBy}
+use Rattle.report.specs.Taking.{takeOf}
+use Rattle.reportblocks.specs.Blocks.{counting, messageOf, messagesOf, messagesOfAll, Eight, givenBy}
 use Rattle.reportblocks.specs.Blocks.{inTurnFrom, joined, stretches}
-use Rattle.reportblocks.specs.Carried.{AllBlocks, Sends, Carried, CarriedTight}
+use Rattle.reportblocks.specs.Carried.{AllBlocks, Carried, CarriedTight}
 use Rattle.reportblocks.proofs.Stretches.{turn-none, turn-more, short, stretch-first}
 use Rattle.reportblocks.proofs.Taken.{exactly}
 

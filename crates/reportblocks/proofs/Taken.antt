@@ -3,22 +3,22 @@
 --   part-stated   the part block after any messages
 -- Assumes nothing.
 use Prim.Native.Nat.{ℕ, zero, suc, _+_, _-_, _*_, _≤_, _<_}
-use mathlib.Core.Bool.{Bool, true, false, _&&_, false≢true}
+use mathlib.Core.Bool.{true, false, false≢true}
 use mathlib.Core.List.{List, [], _∷_, _++_, append-assoc, append-nil}
 use mathlib.Core.Path.{_≡_, refl, sym, ap, _∙_}
 use native.Mathlib.Omega.{arith}
-use lib.Dec.{eqb, ltb}
-use lib.ListN.{length, take, drop, replicate, length-append}
+use lib.Dec.{eqb}
+use lib.ListN.{length, drop, replicate, length-append}
 use lib.Seq.{take-at, drop-append-add}
 use borrow.Author.Tests.{eq-eqb, eqb-true, eqb-false, ltb-true, lt-ltb}
-use Rattle.laws.proofs.Bools.{cond-true, cond-false, either, and-both, and-true}
+use Rattle.laws.proofs.Bools.{either, and-both, and-true}
 use Rattle.end.specs.Message.{Message}
 use Rattle.report.specs.declared.TakingHost.{TakingHost}
 use Rattle.report.specs.declared.Take.the-variants.{Part, Out, Whole}
 use Rattle.report.specs.declared.Taken.{Taken}
-use Rattle.report.specs.Taking.{zeros, filledOf, inTurn, freshTaking, wholeOr, takeOf}
+use Rattle.report.specs.Taking.{zeros, filledOf, inTurn, freshTaking, takeOf}
 use Rattle.reportblocks.specs.Blocks.{Eight, handedOver, givenBy, hostAfter, inTurnFrom, joined, stretches}
-use Rattle.reportblocks.specs.Carried.{Stands, Exactly, PartStated}
+use Rattle.reportblocks.specs.Carried.{Exactly, PartStated}
 use Rattle.reportblocks.proofs.Stretches.{turn-cons, turn-snoc, short, skip, stretch-first, stretch-broken, joined-append}
 
 -- What a message can be: in turn, in turn and the last, a 0 out of turn, another one out of turn

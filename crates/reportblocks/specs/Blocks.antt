@@ -1,6 +1,5 @@
 -- Blocks as messages, and messages as blocks.
 --   IsBlock b           128 bytes
---   counting k n        n numbers from k on: k, k + 1 and so on
 --   messageOf b n       number n of the block b: it carries bytes 8n to 8n + 7
 --   messagesOf b        all sixteen of them, 0 to 15; messagesOfAll: those of several blocks, one block behind another
 --   Eight ms            each of the messages ms has eight bytes
@@ -22,6 +21,7 @@ use Rattle.end.specs.Message.{Message}
 use Rattle.report.specs.declared.TakingHost.{TakingHost}
 use Rattle.report.specs.declared.Take.{Take}
 use Rattle.report.specs.declared.Take.the-variants.{Part, Out, Whole}
+pub use Rattle.report.specs.Counting.{counting}
 use Rattle.report.specs.Taking.{takeOf}
 
 pub record IsBlock (b : List ℕ) : Type 0 where
@@ -29,10 +29,6 @@ pub record IsBlock (b : List ℕ) : Type 0 where
   pub bytes : above 255 b ≡ false
 
 -- A block as messages
-
-abbrev pub counting : ℕ → ℕ → List ℕ
-counting k zero = []
-counting k (suc n) = k ∷ counting (suc k) n
 
 abbrev pub messageOf : List ℕ → ℕ → Message
 messageOf b n = record { number = n; bytes = take 8 (drop (8 * n) b) }

@@ -7,9 +7,9 @@
 use Prim.Native.Nat.{ℕ}
 use mathlib.Core.Bool.{Bool, true, _&&_}
 use mathlib.Core.List.{List, [], _∷_, _++_, map}
-use mathlib.Core.Path.{_≡_, refl, sym, ap, _∙_}
+use mathlib.Core.Path.{_≡_, refl, ap, _∙_}
 use Rattle.laws.proofs.Bools.{and-both, and-true}
-use Rattle.joined.specs.Joined.{Direction, aToB, bToA, Pair, near, slot, atA, atB, atNear, runBy, every}
+use Rattle.joined.specs.Joined.{Direction, aToB, bToA, near, slot, atNear, runBy, every}
 use Rattle.joined.proofs.Runs.{run-append, every-append}
 use Rattle.link.specs.Link.{Side, Access, Harm, ruledCall, hosted as called}
 use Rattle.link.specs.Link as link

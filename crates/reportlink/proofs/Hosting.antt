@@ -4,21 +4,21 @@
 --   does         of every call
 --   ends-agree   the ends after the steps
 -- Assumes nothing.
-use Prim.Native.Nat.{ℕ, zero, suc, _+_, _-_, _*_, _≤_, _<_}
-use mathlib.Core.Bool.{Bool, true, false, not, cond, _&&_, _||_, true≢false, false≢true}
+use Prim.Native.Nat.{ℕ, suc, _+_, _-_, _*_, _<_}
+use mathlib.Core.Bool.{Bool, true, false, not, _&&_, _||_, true≢false, false≢true}
 use mathlib.Core.List.{List, [], _∷_, _++_, map, append-assoc, append-nil}
 use mathlib.Core.Path.{_≡_, refl, sym, ap, subst, _∙_}
 use native.Mathlib.Omega.{arith}
 use lib.Dec.{eqb, ltb, leb}
-use lib.ListN.{length, replicate, length-set}
-use borrow.Author.Tests.{ltb-true, ltb-false, lt-ltb, le-ltb, eqb-true, eqb-false, eq-eqb, ne-eqb, leb-true, le-leb}
+use lib.ListN.{length, length-set}
+use borrow.Author.Tests.{ltb-true, ltb-false, eqb-true, eqb-false, ne-eqb, leb-true, le-leb}
 use Rattle.laws.specs.Above.{above}
-use Rattle.laws.proofs.Bools.{cond-true, cond-false, either, and-both, and-true, and-no, no-if}
+use Rattle.laws.proofs.Bools.{cond-true, cond-false, either, and-both, and-true}
 use Rattle.joined.specs.Joined.{also, bit15, within}
 use Rattle.end.specs.declared.End.{End}
 use Rattle.end.specs.declared.Next.{Next}
 use Rattle.end.specs.Message.{Message}
-use Rattle.end.specs.Registers.{readOf, writeOf}
+use Rattle.end.specs.Registers.{readOf}
 use Rattle.answer.specs.declared.Answer.{Answer}
 use Rattle.answer.specs.declared.Answer.the-variants.{Done}
 use Rattle.answer.specs.Number.{numberOf}
@@ -32,8 +32,8 @@ use Rattle.report.specs.declared.Pulled.{Pulled}
 use Rattle.report.specs.declared.Taken.{Taken}
 use Rattle.report.specs.declared.Push.{Push}
 use Rattle.report.specs.declared.Push.the-variants.{Idle}
-use Rattle.report.specs.Sending.{done, wordOf, writtenOf, refusal, underWay, freshSending, offerOf, pushedBy, pushOf}
-use Rattle.report.specs.Taking.{freshTaking, takeOf, took, pullOf}
+use Rattle.report.specs.Sending.{done, wordOf, writtenOf, refusal, underWay, offerOf, pushedBy, pushOf}
+use Rattle.report.specs.Taking.{freshTaking, takeOf, pullOf}
 use Rattle.reportblocks.specs.Blocks.{IsBlock, counting, messageOf, messagesOf, messagesOfAll, handedOver, givenBy}
 use Rattle.reportblocks.specs.Blocks.{hostAfter}
 use Rattle.reportblocks.specs.Carried.{AllBlocks}
@@ -42,7 +42,7 @@ use Rattle.reportlink.specs.Reporting.{partWrites, puts, gets, pushing, 
 use Rattle.reportlink.specs.Reporting.{onSide}
 use Rattle.reportlink.specs.Demand.{still, Has, EndsAgree}
 use Rattle.reportlink.proofs.Accesses.{calls, byRule}
-use Rattle.reportlink.proofs.Pushing.{ok, all, chain, asCalls, puts-calls, puts-ruled, puts-end, puts-ok, puts-all}
+use Rattle.reportlink.proofs.Pushing.{ok, chain, asCalls, puts-calls, puts-ruled, puts-end, puts-ok, puts-all}
 use Rattle.reportlink.proofs.Pushing.{puts-refused, puts-taken, puts-written, part-small, part-accepted}
 use Rattle.reportlink.proofs.Pulling.{five, gets-calls, brought, read-all, all-accepted, all-written, all-end}
 use Rattle.reportlink.proofs.Pulling.{one-host, one-end, one-ruled, all-ruled, pull-took, pull-none}

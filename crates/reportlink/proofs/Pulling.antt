@@ -6,16 +6,15 @@
 --   pull-took, pull-none   the step where 3.2313 says that a message is there, and where it does not
 -- Assumes nothing.
 use Prim.Native.Nat.{ℕ, _+_, _/_, _%_}
-use mathlib.Core.Bool.{Bool, true, false, cond, _&&_, true≢false}
+use mathlib.Core.Bool.{Bool, true, false, _&&_, true≢false}
 use mathlib.Core.List.{List, [], _∷_, _++_, map}
-use mathlib.Core.Path.{_≡_, refl, sym, ap, _∙_}
-use Rattle.laws.proofs.Bools.{cond-true, cond-false, either, and-both}
+use mathlib.Core.Path.{_≡_, refl, _∙_}
+use Rattle.laws.proofs.Bools.{cond-true, and-both}
 use Rattle.joined.specs.Joined.{bit15}
 use Rattle.end.specs.declared.End.{End}
-use Rattle.end.specs.declared.Read.{Read}
 use Rattle.end.specs.Message.{Message}
 use Rattle.end.specs.Registers.{readOf}
-use Rattle.link.specs.Link.{Side, Host, Access, read, ruledCall, hosted as called}
+use Rattle.link.specs.Link.{Side, read, hosted as called}
 use Rattle.report.specs.declared.TakingHost.{TakingHost}
 use Rattle.report.specs.declared.Pulled.{Pulled}
 use Rattle.report.specs.Sending.{done}

@@ -19,12 +19,11 @@ use lib.Seq.{getD-drop, getD-take, length-take-le}
 use Rattle.laws.proofs.Bools.{cond-true, cond-false, either, and-both, and-true, and-no}
 use Rattle.laws.proofs.AboveLaws.{above-getD}
 use Rattle.laws.proofs.Lists.{eight}
-use Rattle.joined.specs.Joined.{also, bit15}
+use Rattle.joined.specs.Joined.{bit15}
 use Rattle.crc.specs.Bits.{odd}
 use Rattle.weights.specs.Weights.{halves}
 use Rattle.end.specs.declared.End.{End}
 use Rattle.end.specs.declared.Next.{Next}
-use Rattle.end.specs.Message.{Message}
 use Rattle.end.specs.Registers.{writeOf}
 use Rattle.link.specs.Link.{Side, Access, write, stores, messageSide, bytesOf, answered0, written}
 use Rattle.report.specs.Sending.{done, wordOf, thenWrite}

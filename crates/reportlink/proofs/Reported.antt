@@ -4,8 +4,7 @@
 --   by-blocks    the same for hosts of any kind whose messages accepted are those of blocks
 -- Assumes nothing.
 use Prim.Native.Nat.{ℕ, zero, suc, _-_, _≤_}
-use mathlib.Core.Bool.{Bool, true, cond}
-use mathlib.Core.List.{List, [], _∷_, _++_}
+use mathlib.Core.List.{List, [], _∷_}
 use mathlib.Core.Path.{_≡_, refl, sym, ap, subst, _∙_}
 use native.Mathlib.Omega.{arith}
 use lib.Dec.{eqb}
@@ -14,7 +13,7 @@ use lib.ListN.{length, length-map}
 use Rattle.laws.proofs.Bools.{either}
 use Rattle.joined.specs.Joined.{Direction, aToB, bToA, near, far, slot, atA, atB, InTurn}
 use Rattle.end.specs.Message.{Message}
-use Rattle.link.specs.Link.{Side, Harm, taking}
+use Rattle.link.specs.Link.{Side, taking}
 use Rattle.link.specs.Link as link
 use Rattle.link.specs.Demand.{mostHeld}
 use Rattle.link.proofs.PartOne.{nothing-lost}
@@ -26,7 +25,7 @@ use Rattle.reportblocks.proofs.Carried.{carried}
 use Rattle.reportlink.specs.Reporting.{Reporter, World, resetWorld, Event, step, run, runBy, hosted}
 use Rattle.reportlink.specs.Demand.{Reported, still, Has, Stated, ByBlocks}
 use Rattle.reportlink.proofs.Accesses.{Follows, follow-none, follow-slot, follow-calls}
-use Rattle.reportlink.proofs.Hosting.{Keeps, keeps-reset, keeps-side, Does, does}
+use Rattle.reportlink.proofs.Hosting.{Keeps, keeps-reset, keeps-side, does}
 
 -- a symbol that arrives is none of the host's business
 taking-host : (l : List ℕ) (s : Side) → taking l s .host ≡ s .host

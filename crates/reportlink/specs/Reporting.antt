@@ -14,14 +14,13 @@
 --   onSide f       what the side does, whatever the host is
 --   Event, step, run   a slot, or one host's call; the world after it; after a list of events
 -- Assumes nothing.
-use Prim.Native.Nat.{ℕ, _+_, _*_, _/_}
+use Prim.Native.Nat.{ℕ, _+_, _*_}
 use mathlib.Core.Bool.{Bool, true, false, not, cond, _&&_}
 use mathlib.Core.List.{List, [], _∷_, _++_}
 use mathlib.Core.Path.{_≡_}
 use lib.Dec.{eqb}
 use Rattle.joined.specs.Joined.{Pair, EventOf, also, bit15, within, stepBy}
 unfoldable pub use Rattle.joined.specs.Joined.{runBy}
-use Rattle.end.specs.declared.End.{End}
 use Rattle.end.specs.declared.Read.{Read}
 use Rattle.end.specs.Registers.{readOf}
 use Rattle.link.specs.Link.{Side, resetSide, Access, read, write, health, present, Harm, answered0}

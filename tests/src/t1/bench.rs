@@ -1,10 +1,11 @@
-//! The bench: commands on two ends, a link and the finder.
+//! The bench: commands on two ends, each with its reporting host, a link and the finder.
 
 use super::end::{End, Reason};
 use super::fields::fields;
 use super::finder::find;
 use super::frame::{build, check, crc, Fault, DATA, SYMBOLS};
 use super::link::Link;
+use super::report::{Block, Host, Pulled, Pushed, Taken};
 use crate::console::{decimal, hex, Console, Said, Word, LARGEST};
 use crate::fields::{dump, set};
 use crate::link::side;
@@ -16,12 +17,14 @@ pub type Script = script::Script<Bench>;
 
 pub struct Bench {
     pub link: Link,
+    /// Host n is that of end n.
+    pub hosts: [Host; 2],
 }
 
 impl Default for Bench {
     /// As after `link 0 0`.
     fn default() -> Bench {
-        Bench { link: Link::new(0, 0) }
+        Bench { link: Link::new(0, 0), hosts: Default::default() }
     }
 }
 
@@ -29,23 +32,39 @@ impl Console for Bench {
     const PROVED: &'static [&'static str] = &[];
 
     fn command(&mut self, words: &[Word]) -> Said {
+        let (first, rest) = (words[0], &words[1..]);
         if let Some(said) = self.link.command(words) {
+            if first == b"link" && said.is_ok() {
+                self.hosts = Default::default();
+            }
             return said;
         }
-        let (first, rest) = (words[0], &words[1..]);
         match first {
             b"check" => say_check(&symbols(rest)?),
             b"find" => say_find(&symbols(rest)?),
             b"crc" => Ok(joined(&crc(&ten_bytes(rest)?), |byte| format!("{:02X}", byte))),
             b"build" => Ok(joined(&build(&ten_bytes(rest)?), |symbol| format!("{:03X}", symbol))),
-            _ => call(&mut self.link.ends[side(first)?], rest),
+            _ => {
+                let side = side(first)?;
+                call(&mut self.link.ends[side], &mut self.hosts[side], rest)
+            }
         }
     }
 }
 
-fn call(end: &mut End, words: &[Word]) -> Said {
+fn call(end: &mut End, host: &mut Host, words: &[Word]) -> Said {
     let (name, arguments) = words.split_first().ok_or("a call is needed")?;
     match (*name, arguments) {
+        (b"offer", bytes) => Ok(host.sender.offer(&block(bytes)?).number().to_string()),
+        (b"push", []) => Ok(say_push(host.sender.push(end))),
+        (b"pull", []) => Ok(say_pull(host.taker.pull(end))),
+        (b"report", []) => Ok(say_report(host)),
+        _ => call_end(end, name, arguments),
+    }
+}
+
+fn call_end(end: &mut End, name: Word, arguments: &[Word]) -> Said {
+    match (name, arguments) {
         (b"reset", []) => {
             *end = End::reset();
             Ok("0".to_string())
@@ -83,6 +102,34 @@ fn say_take(end: &mut End, symbol: u16) -> Said {
     })
 }
 
+fn say_push(pushed: Pushed) -> String {
+    match pushed {
+        Pushed::Idle => "idle".to_string(),
+        Pushed::Waits => "waits".to_string(),
+        Pushed::Refused(answer) => answer.number().to_string(),
+        Pushed::Part(number) => format!("part {}", number),
+    }
+}
+
+fn say_pull(pulled: Pulled) -> String {
+    match pulled {
+        Pulled::Empty => "empty".to_string(),
+        Pulled::Refused(answer) => answer.number().to_string(),
+        Pulled::Message(number, Taken::Part) => format!("part {}", number),
+        Pulled::Message(number, Taken::Out) => format!("out {}", number),
+        Pulled::Message(_, Taken::Block(block)) => format!("block {}", digits(&block)),
+    }
+}
+
+fn say_report(host: &Host) -> String {
+    let next = host.sender.next().map_or("-".to_string(), |number| number.to_string());
+    format!("next {} turn {} part {}", next, host.taker.turn(), digits(&host.taker.block()))
+}
+
+fn digits(block: &Block) -> String {
+    block.iter().map(|byte| format!("{:02X}", byte)).collect()
+}
+
 fn say_check(list: &[u16]) -> Said {
     let (answer, fault) = check(list);
     let number = answer.number();
@@ -105,9 +152,15 @@ fn symbols(words: &[Word]) -> Result<Vec<u16>, &'static str> {
 }
 
 fn ten_bytes(words: &[Word]) -> Result<[u8; DATA], &'static str> {
-    let bytes: Vec<u8> =
-        words.iter().map(|word| hex(word, LARGEST_BYTE).map(|byte| byte as u8)).collect::<Result<_, _>>()?;
-    bytes.try_into().map_err(|_| "ten bytes are needed")
+    bytes(words)?.try_into().map_err(|_| "ten bytes are needed")
+}
+
+fn block(words: &[Word]) -> Result<Block, &'static str> {
+    bytes(words)?.try_into().map_err(|_| "128 bytes are needed")
+}
+
+fn bytes(words: &[Word]) -> Result<Vec<u8>, &'static str> {
+    words.iter().map(|word| hex(word, LARGEST_BYTE).map(|byte| byte as u8)).collect()
 }
 
 fn joined<T>(values: &[T], write: impl Fn(&T) -> String) -> String {

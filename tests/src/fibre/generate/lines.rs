@@ -30,8 +30,8 @@ const VOCABULARY: Vocabulary = Vocabulary {
     ],
     words: &[
         "a", "b", "c", "A", "link", "slot", "mark", "reset", "send", "take", "read", "write", "health", "present",
-        "dump", "set", "check", "find", "crc", "build", "words", "rxval", "0", "1", "2", "17", "4096", "4097", "65535",
-        "65536", "FFF", "1000", "#",
+        "dump", "set", "offer", "push", "pull", "report", "check", "find", "crc", "build", "words", "rxval", "0", "1",
+        "2", "17", "4096", "4097", "65535", "65536", "FFF", "1000", "#",
     ],
     names: &[
         "txreq",

@@ -18,7 +18,7 @@ pub fn links(seed: u64, lines: usize) -> Script {
 }
 
 impl Writer {
-    fn link(&mut self) {
+    pub fn link(&mut self) {
         let delays = [self.delay(), self.delay()];
         self.script.say(format_args!("link {} {}", delays[0], delays[1]));
         // Else a long line would stay silent for all that follows.
@@ -55,7 +55,7 @@ impl Writer {
     }
 
     /// A few, or at times so many that presence lapses, or nearly.
-    fn marks(&mut self, side: usize) {
+    pub fn marks(&mut self, side: usize) {
         let long = self.random.one_in(12);
         let count = if long { 740 + self.random.below(50) } else { self.random.below(31) };
         self.script.say(format_args!("mark {} {}", SIDES[side], count));
@@ -65,7 +65,7 @@ impl Writer {
         }
     }
 
-    fn slots(&mut self) {
+    pub fn slots(&mut self) {
         let count = match self.random.below(40) {
             0 => self.random.below(4200),
             1 => 0,
@@ -76,7 +76,7 @@ impl Writer {
     }
 
     /// Reads 3.2313 and, only if bit 15 is set, then 3.2314 to 3.2317, with slots and other calls between.
-    fn take_by_rule(&mut self, side: usize) {
+    pub fn take_by_rule(&mut self, side: usize) {
         self.script.say(format_args!("{} read 2313", SIDES[side]));
         if !matches!(self.script.last_answer(), [b'0', b' ', digit, ..] if *digit >= b'8') {
             return;
@@ -93,7 +93,7 @@ impl Writer {
     }
 
     /// What no link brings about by itself: an end that starts anew, or one whose record is wrong for a while.
-    fn disturb(&mut self, side: usize) {
+    pub fn disturb(&mut self, side: usize) {
         let name = SIDES[side];
         if self.random.one_in(3) {
             self.script.say(format_args!("{} reset", name));

@@ -7,6 +7,7 @@ mod frames;
 mod lines;
 mod links;
 mod records;
+mod reports;
 
 pub use classes::{symbols_of, words, Class, CLASSES};
 pub use ends::{control_value, ends, good_limit};
@@ -15,6 +16,7 @@ pub use frames::{data_bytes, frames};
 pub use lines::lines;
 pub use links::links;
 pub use records::{about_to_end, any_call, any_good_end, damaged, wander};
+pub use reports::reports;
 
 use super::bench::{Bench, Script};
 use crate::writer;
@@ -24,5 +26,12 @@ type Writer = writer::Writer<Bench>;
 /// A kind of script: from a seed and about how many lines are wanted.
 pub type Kind = fn(u64, usize) -> Script;
 
-pub const KINDS: [(&str, Kind); 6] =
-    [("frames", frames), ("captures", captures), ("runs", runs), ("ends", ends), ("links", links), ("lines", lines)];
+pub const KINDS: [(&str, Kind); 7] = [
+    ("frames", frames),
+    ("captures", captures),
+    ("runs", runs),
+    ("ends", ends),
+    ("links", links),
+    ("reports", reports),
+    ("lines", lines),
+];

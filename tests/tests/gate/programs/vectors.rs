@@ -10,8 +10,9 @@ use std::fs;
 use std::path::PathBuf;
 use std::time::Instant;
 
-/// The scripts of 1000BASE-T1 and of the fibre channel, by the folder of what they must print.
+/// The scripts of 1000BASE-T1, of its reports and of the fibre channel, by the folder of what they must print.
 const T1: (&str, usize) = ("107", 8);
+const REPORTS: (&str, usize) = ("110", 2);
 const FIBRE: (&str, usize) = ("109", 2);
 
 /// Name, script and expected output.
@@ -55,7 +56,9 @@ fn with_story(channel: (&str, usize), name: &str) -> Vec<Vector> {
 }
 
 fn t1_vectors() -> Vec<Vector> {
-    with_story(T1, "freeze")
+    let mut found = with_story(T1, "freeze");
+    found.extend(vectors(REPORTS));
+    found
 }
 
 fn fibre_vectors() -> Vec<Vector> {
@@ -102,7 +105,7 @@ fn hold(who: &str, vectors: Vec<Vector>, answers: impl Fn(&[u8]) -> Vec<u8>) {
 #[test]
 fn every_script_has_its_output() {
     let scripts = fs::read_dir(folder().join("scripts")).expect("vectors/scripts is there").count();
-    assert_eq!(scripts, T1.1 + FIBRE.1);
+    assert_eq!(scripts, T1.1 + REPORTS.1 + FIBRE.1);
 }
 
 #[test]

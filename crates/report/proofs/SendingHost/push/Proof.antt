@@ -1,4 +1,5 @@
--- `SendingHost::push` meets its contract. Assumes nothing.
+-- `SendingHost::push` meets its contract. Each return knows whether a block is under way, and whether a write was refused.
+-- Assumes nothing.
 use mathlib.Core.Path.{ap, _∙_, sym}
 use Rattle.end.specs.declared.Next.{Next}
 use Rattle.report.specs.Sending.{pushedBy, pushOf}
@@ -8,14 +9,14 @@ use borrow.Author.Needs.{needs}
 use Rattle.report.proofs.SendingHost.push.Statement.{statement}
 use Rattle.report.proofs.SendingHost.push.Tie as tie
 
+add-following : tie.Need-add-following
+add-following c = search needs
+
 written-requires : tie.Need-written-requires
 written-requires c κs = search needs
 
 done-requires : tie.Need-done-requires
 done-requires c κs = search needs
-
-add-t12 : tie.Need-add-t12
-add-t12 c = search needs
 
 returns : tie.Need-returns
 unfolding pushOf
@@ -48,4 +49,11 @@ returns-3 c = sym (cond-false _ _ (le-ltb _ _ (c .if1 .left)))
 pub push-spec : {M : Type 1} → statement M
 push-spec =
     tie.close
-    (tie.spec written-requires done-requires add-t12 returns refusal-requires returns-2 returns-3)
+    (tie.spec
+    add-following
+    written-requires
+    done-requires
+    returns
+    refusal-requires
+    returns-2
+    returns-3)

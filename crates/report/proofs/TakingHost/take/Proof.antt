@@ -48,17 +48,12 @@ returns-2 c =
     (cond-false _ _ (hence (s .before .before .in-turn .ensures) (s .before .if1 .left))
     ∙ cond-true _ _ (eq-eqb _ _ (s .if2 .taken))))
 
-fresh-requires : tie.Need-fresh-requires
-fresh-requires c κs = search needs
-
 returns-3 : tie.Need-returns-3
 unfolding takeOf
 returns-3 c =
-    let s = c .before in
-    rw (c .fresh .ensures)
-    (sym
-    (cond-false _ _ (hence (s .before .before .in-turn .ensures) (s .before .if1 .left))
-    ∙ cond-false _ _ (ne-eqb _ _ (s .if2 .left))))
+    sym
+    (cond-false _ _ (hence (c .before .before .in-turn .ensures) (c .before .if1 .left))
+    ∙ cond-false _ _ (ne-eqb _ _ (c .if2 .left)))
 
 pub take-spec : {M : Type 1} → statement M
 take-spec =
@@ -71,5 +66,4 @@ take-spec =
     filled-requires-2
     whole-or-requires-2
     returns-2
-    fresh-requires
     returns-3)

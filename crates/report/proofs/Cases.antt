@@ -1,0 +1,218 @@
+-- Computed cases, worked out by hand from request #110 (specs/Worked.antt has the hosts and the message that they start
+-- from): the whole result of each step. Of an end nothing is known but what it answers.
+--   fresh-*      hosts at the beginning
+--   offer-*      while a block is under way, and while none is
+--   push-*       a part, and what is refused
+--   take-*       in turn, out of turn, and numbers and turns that no message has
+--   pull-*       a message, none, and what is refused
+-- Assumes nothing.
+use Prim.Native.Nat.{ℕ}
+use mathlib.Core.List.{List, [], _∷_, _++_, map}
+use mathlib.Core.Path.{_≡_, refl}
+use lib.ListN.{replicate}
+use Rattle.crc.specs.Bits.{odd}
+use Rattle.answer.specs.declared.Answer.the-variants.{Done, BadEnd, Blocked, ReadOnlyBits}
+use Rattle.answer.specs.Number.{numberOf}
+use Rattle.end.specs.declared.End.{End}
+use Rattle.end.specs.Registers.{readOf, writeOf}
+use Rattle.report.specs.declared.Push.the-variants.{Idle, Waits, Refused as RefusedWrite, Part as Pushes}
+use Rattle.report.specs.declared.Take.the-variants.{Part, Out, Whole}
+use Rattle.report.specs.declared.Pull.the-variants.{Refused as RefusedRead, Empty, Took}
+use Rattle.report.specs.Sending.{freshSending, offerOf, pushOf}
+use Rattle.report.specs.Taking.{freshTaking, takeOf, pullOf}
+use Rattle.report.specs.Counting.{counting}
+use Rattle.report.specs.Worked.{sendingAt, takingAt, worked}
+
+none : List ℕ
+none = replicate 128 0
+
+-- At the beginning
+
+fresh-sending : freshSending ≡ record { block = replicate 128 0; next = 16 }
+fresh-sending = refl
+
+fresh-taking : freshTaking ≡ record { block = replicate 128 0; turn = 0 }
+fresh-taking = refl
+
+-- Offer
+
+offer-refused : map (λ n. numberOf (offerOf (sendingAt n) (counting 128 128) .answer)) (0 ∷ 1 ∷ 15 ∷ 16 ∷ 17 ∷ 255 ∷ [])
+    ≡ 4 ∷ 4 ∷ 4 ∷ 0 ∷ 0 ∷ 0 ∷ []
+unfolding offerOf
+offer-refused = refl
+
+offer-stays : offerOf (sendingAt 15) (counting 128 128) .host ≡ sendingAt 15
+unfolding offerOf
+offer-stays = refl
+
+offer-done : offerOf (sendingAt 16) (counting 128 128) .host ≡ record { block = counting 128 128; next = 0 }
+unfolding offerOf
+offer-done = refl
+
+-- Push
+
+push-idle : (e : End) → pushOf (sendingAt 16) e ≡ record { what = Idle; host = sendingAt 16; end = e }
+unfolding pushOf
+push-idle e = refl
+
+push-beyond : (e : End) → pushOf (sendingAt 255) e ≡ record { what = Idle; host = sendingAt 255; end = e }
+unfolding pushOf
+push-beyond e = refl
+
+-- the bytes of number 1 are 8 to 15
+module _ (e : End) where
+  after-one : End
+  after-one = writeOf e 2309 0x0908 .end
+
+  after-two : End
+  after-two = writeOf after-one 2310 0x0B0A .end
+
+  after-three : End
+  after-three = writeOf after-two 2311 0x0D0C .end
+
+  after-four : End
+  after-four = writeOf after-three 2312 0x0F0E .end
+
+  -- all five writes are answered 0: number 1 is accepted, and number 2 is next
+  push-part : writeOf e 2309 0x0908 .answer ≡ Done → writeOf after-one 2310 0x0B0A .answer ≡ Done
+      → writeOf after-two 2311 0x0D0C .answer ≡ Done
+      → writeOf after-three 2312 0x0F0E .answer ≡ Done
+      → writeOf after-four 2308 0x8100 .answer ≡ Done
+      → pushOf (sendingAt 1) e
+      ≡ record { what = Pushes 1; host = sendingAt 2; end = writeOf after-four 2308 0x8100 .end }
+  unfolding pushOf after-one after-two after-three after-four
+  push-part a b c d f = rw (a, b, c, d, f)
+
+  -- answer 4 to the first write: the host waits, and is where it was
+  push-waits : writeOf e 2309 0x0908 .answer ≡ Blocked
+      → pushOf (sendingAt 1) e ≡ record { what = Waits; host = sendingAt 1; end = after-one }
+  unfolding pushOf after-one
+  push-waits a = rw a
+
+  -- any other refusal says so, also of a later write
+  push-refused : writeOf e 2309 0x0908 .answer ≡ BadEnd
+      → pushOf (sendingAt 1) e ≡ record { what = RefusedWrite BadEnd; host = sendingAt 1; end = after-one }
+  unfolding pushOf after-one
+  push-refused a = rw a
+
+  push-refused-late : writeOf e 2309 0x0908 .answer ≡ Done → writeOf after-one 2310 0x0B0A .answer ≡ Done
+      → writeOf after-two 2311 0x0D0C .answer ≡ Done
+      → writeOf after-three 2312 0x0F0E .answer ≡ Done
+      → writeOf after-four 2308 0x8100 .answer ≡ ReadOnlyBits
+      → pushOf (sendingAt 1) e
+      ≡ record {
+        what = RefusedWrite ReadOnlyBits;
+        host = sendingAt 1;
+        end = writeOf after-four 2308 0x8100 .end;
+      }
+  unfolding pushOf after-one after-two after-three after-four
+  push-refused-late a b c d f = rw (a, b, c, d, f)
+
+-- Take
+
+take-first : takeOf (takingAt 0) 0 worked
+    ≡ record { what = Part 0; block = none; host = record { block = worked ++ counting 8 120; turn = 1 } }
+unfolding takeOf none
+take-first = refl
+
+take-third : takeOf (takingAt 3) 3 worked
+    ≡ record {
+      what = Part 3;
+      block = none;
+      host = record { block = counting 0 24 ++ (worked ++ counting 32 96); turn = 4 };
+    }
+unfolding takeOf none
+take-third = refl
+
+take-fourteen : takeOf (takingAt 14) 14 worked
+    ≡ record {
+      what = Part 14;
+      block = none;
+      host = record { block = counting 0 112 ++ (worked ++ counting 120 8); turn = 15 };
+    }
+unfolding takeOf none
+take-fourteen = refl
+
+-- the last one in turn: the block is handed over, and a fresh one begins
+take-last : takeOf (takingAt 15) 15 worked
+    ≡ record { what = Whole; block = counting 0 120 ++ worked; host = record { block = none; turn = 0 } }
+unfolding takeOf none
+take-last = refl
+
+-- out of turn the part block is dropped; a 0 starts the next
+take-start : takeOf (takingAt 5) 0 worked
+    ≡ record { what = Part 0; block = none; host = record { block = worked ++ replicate 120 0; turn = 1 } }
+unfolding takeOf none
+take-start = refl
+
+take-out : map (λ n. takeOf (takingAt 5) n worked) (4 ∷ 6 ∷ 15 ∷ 16 ∷ 255 ∷ [])
+    ≡ map (λ n. record { what = Out n; block = none; host = record { block = none; turn = 0 } })
+    (4 ∷ 6 ∷ 15 ∷ 16 ∷ 255 ∷ [])
+unfolding takeOf none
+take-out = refl
+
+-- no number above 15 is in turn, whatever the turn
+take-beyond : map (λ n. takeOf (takingAt n) n worked) (16 ∷ 255 ∷ [])
+    ≡ map (λ n. record { what = Out n; block = none; host = record { block = none; turn = 0 } }) (16 ∷ 255 ∷ [])
+unfolding takeOf none
+take-beyond = refl
+
+take-start-beyond : takeOf (takingAt 16) 0 worked
+    ≡ record { what = Part 0; block = none; host = record { block = worked ++ replicate 120 0; turn = 1 } }
+unfolding takeOf none
+take-start-beyond = refl
+
+-- Pull
+
+module _ (e : End) where
+  status : End
+  status = readOf e 2313 .end
+
+  one-read : End
+  one-read = readOf status 2314 .end
+
+  two-read : End
+  two-read = readOf one-read 2315 .end
+
+  three-read : End
+  three-read = readOf two-read 2316 .end
+
+  -- bit 15 and number 3; the bytes 200 to 207
+  pull-part : readOf e 2313 .answer ≡ Done → readOf e 2313 .value ≡ 0x8300 → readOf status 2314 .value ≡ 0xC9C8
+      → readOf one-read 2315 .value ≡ 0xCBCA
+      → readOf two-read 2316 .value ≡ 0xCDCC
+      → readOf three-read 2317 .value ≡ 0xCFCE
+      → pullOf (takingAt 3) e
+      ≡ record {
+        what = Took (Part 3);
+        block = none;
+        host = record { block = counting 0 24 ++ (worked ++ counting 32 96); turn = 4 };
+        end = readOf three-read 2317 .end;
+      }
+  unfolding pullOf takeOf odd none status one-read two-read three-read
+  pull-part a v b c d f = rw (a, v, b, c, d, f)
+
+  pull-block : readOf e 2313 .answer ≡ Done → readOf e 2313 .value ≡ 0xFFFF → readOf status 2314 .value ≡ 0xC9C8
+      → readOf one-read 2315 .value ≡ 0xCBCA
+      → readOf two-read 2316 .value ≡ 0xCDCC
+      → readOf three-read 2317 .value ≡ 0xCFCE
+      → pullOf (takingAt 15) e
+      ≡ record {
+        what = Took Whole;
+        block = counting 0 120 ++ worked;
+        host = record { block = none; turn = 0 };
+        end = readOf three-read 2317 .end;
+      }
+  unfolding pullOf takeOf odd none status one-read two-read three-read
+  pull-block a v b c d f = rw (a, v, b, c, d, f)
+
+  -- every other bit of 3.2313 is set, and bit 15 is not
+  pull-empty : readOf e 2313 .answer ≡ Done → readOf e 2313 .value ≡ 0x7FFF
+      → pullOf (takingAt 3) e ≡ record { what = Empty; block = none; host = takingAt 3; end = status }
+  unfolding pullOf odd none status
+  pull-empty a v = rw (a, v)
+
+  pull-refused : readOf e 2313 .answer ≡ BadEnd
+      → pullOf (takingAt 3) e ≡ record { what = RefusedRead BadEnd; block = none; host = takingAt 3; end = status }
+  unfolding pullOf none status
+  pull-refused a = rw a

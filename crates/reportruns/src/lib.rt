@@ -1,0 +1,1 @@
+// Specs and proofs only: long runs of reporting hosts, computed.

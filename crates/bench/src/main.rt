@@ -1,7 +1,8 @@
-// The bench: a console on two ends and the link between them, on the frame check and on the finder. It reads commands,
-// one a line, and writes one line for each.
+// The bench: a console on two ends with their reporting hosts and the link between them, on the frame check and on the
+// finder. It reads commands, one a line, and writes one line for each.
 mod serve;
 mod session;
+mod state;
 
 // How many symbols a list can have: more than a line can hold.
 const LISTED: usize = 131072;

@@ -1,15 +1,16 @@
 // The bench's loop.
 use crate::session;
-use benchlink::Link;
+use crate::state;
+use crate::state::Bench;
 use benchlink::SENT;
 use console::Console;
 ghost use Prim.Native.Nat.{_≤_};
 ghost use lib.ListN.{length};
 ghost use Rattle.console.specs.Ready.{turnRoom, Ready};
 
-// The link and the console after a line, and whether all is over.
+// The bench and the console after a line, and whether all is over.
 pub struct After {
-    pub link: Link,
+    pub bench: Bench,
     pub console: Console,
     pub over: bool,
 }
@@ -19,15 +20,15 @@ pub struct After {
 pub fn serve(text: &mut [u8], symbols: &mut [u16], out: &mut [u8], sent: &mut [u16; SENT])
     requires { ⌜ turnRoom ≤ length (now out) ⌝ }
 {
-    let mut link = benchlink::start(0, 0);
+    let mut bench = state::start(0, 0);
     let mut console = console::start();
     let mut turns = u64::MAX;
     while turns > 0 {
-        let after = turn(text, symbols, out, sent, link, console);
+        let after = turn(text, symbols, out, sent, bench, console);
         if after.over {
             return;
         }
-        link = after.link;
+        bench = after.bench;
         console = after.console;
         turns -= 1;
     }
@@ -39,7 +40,7 @@ fn turn(
     symbols: &mut [u16],
     out: &mut [u8],
     sent: &mut [u16; SENT],
-    link: Link,
+    bench: Bench,
     before: Console,
 ) -> After
     requires { ⌜ Ready before (now text) (now out) ⌝ }
@@ -49,11 +50,11 @@ fn turn(
     let start = next.start;
     let stop = next.stop;
     let mut console = next.console;
-    let done = session::answer(&text[start..stop], link, sent, symbols, out, console.at);
-    let link = done.link;
+    let done = session::answer(&text[start..stop], bench, sent, symbols, out, console.at);
+    let bench = done.bench;
     console.at = done.at;
     After {
-        link,
+        bench,
         console,
         over: next.over,
     }

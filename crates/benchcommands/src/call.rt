@@ -1,4 +1,4 @@
-// What a line asks of an end.
+// What a line asks of an end, or of the reporting host beside it.
 use crate::fields;
 use consolecommands::numbers::Element;
 use consolecommands::numbers::Two;
@@ -22,6 +22,7 @@ pub enum Asked {
     Call(Call),
     Dump,
     Set(usize, usize, u16),
+    Host(HostCall),
 }
 
 // A call on an end.
@@ -35,8 +36,17 @@ pub enum Call {
     Present,
 }
 
+// A call on the reporting host of an end. The block that is offered stands behind its word.
+pub enum HostCall {
+    Offer,
+    Push,
+    Pull,
+    Report,
+}
+
 // What a line can ask of an end, and the place of each name.
-const CALLS: [u8; 50] = *b"reset send take read write health present dump set";
+const CALLS: [u8; 73] = *b"reset send take read write health present dump set \
+    offer push pull report";
 
 const RESET: usize = 0;
 
@@ -56,6 +66,14 @@ const DUMP: usize = 7;
 
 const SET: usize = 8;
 
+const OFFER: usize = 9;
+
+const PUSH: usize = 10;
+
+const PULL: usize = 11;
+
+const REPORT: usize = 12;
+
 // What is asked of an end, from a place on.
 pub fn on(line: &[u8], from: usize) -> Asked
     requires { ⌜ from ≤ length (now line) ⌝ }
@@ -74,6 +92,10 @@ pub fn on(line: &[u8], from: usize) -> Asked
         PRESENT => bare(Asked::Call(Call::Present), line, end),
         DUMP => bare(Asked::Dump, line, end),
         SET => set(line, end),
+        OFFER => Asked::Host(HostCall::Offer),
+        PUSH => bare(Asked::Host(HostCall::Push), line, end),
+        PULL => bare(Asked::Host(HostCall::Pull), line, end),
+        REPORT => bare(Asked::Host(HostCall::Report), line, end),
         _ => Asked::Wrong(Fault::Call),
     }
 }

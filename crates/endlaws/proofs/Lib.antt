@@ -12,3 +12,4 @@ pub mod Counted
 pub mod Apart
 pub mod Presence
 pub mod Around
+pub mod Calls

@@ -18,7 +18,7 @@ use Rattle.end.specs.Registers.{readOf, writeOf}
 use Rattle.report.specs.declared.Push.the-variants.{Idle, Waits, Refused as RefusedWrite, Part as Pushes}
 use Rattle.report.specs.declared.Take.the-variants.{Part, Out, Whole}
 use Rattle.report.specs.declared.Pull.the-variants.{Refused as RefusedRead, Empty, Took}
-use Rattle.report.specs.Sending.{freshSending, offerOf, pushOf}
+use Rattle.report.specs.Sending.{wordOf, freshSending, offerOf, pushOf}
 use Rattle.report.specs.Taking.{freshTaking, takeOf, pullOf}
 use Rattle.report.specs.Counting.{counting}
 use Rattle.report.specs.Worked.{sendingAt, takingAt, worked}
@@ -59,7 +59,10 @@ push-beyond : (e : End) → pushOf (sendingAt 255) e ≡ record { what = Idle; h
 unfolding pushOf
 push-beyond e = refl
 
--- the bytes of number 1 are 8 to 15
+-- the bytes of number 1 are 8 to 15, the even one of a register in its bits 7:0
+push-words : map (wordOf (counting 0 128) 1) (0 ∷ 1 ∷ 2 ∷ 3 ∷ []) ≡ 0x0908 ∷ 0x0B0A ∷ 0x0D0C ∷ 0x0F0E ∷ []
+push-words = refl
+
 module _ (e : End) where
   after-one : End
   after-one = writeOf e 2309 0x0908 .end
@@ -177,6 +180,12 @@ module _ (e : End) where
   three-read : End
   three-read = readOf two-read 2316 .end
 
+  -- every other bit of 3.2313 is set, and bit 15 is not
+  pull-empty : readOf e 2313 .answer ≡ Done → readOf e 2313 .value ≡ 0x7FFF
+      → pullOf (takingAt 3) e ≡ record { what = Empty; block = none; host = takingAt 3; end = status }
+  unfolding pullOf odd none status
+  pull-empty a v = rw (a, v)
+
   -- bit 15 and number 3; the bytes 200 to 207
   pull-part : readOf e 2313 .answer ≡ Done → readOf e 2313 .value ≡ 0x8300 → readOf status 2314 .value ≡ 0xC9C8
       → readOf one-read 2315 .value ≡ 0xCBCA
@@ -205,12 +214,6 @@ module _ (e : End) where
       }
   unfolding pullOf takeOf odd none status one-read two-read three-read
   pull-block a v b c d f = rw (a, v, b, c, d, f)
-
-  -- every other bit of 3.2313 is set, and bit 15 is not
-  pull-empty : readOf e 2313 .answer ≡ Done → readOf e 2313 .value ≡ 0x7FFF
-      → pullOf (takingAt 3) e ≡ record { what = Empty; block = none; host = takingAt 3; end = status }
-  unfolding pullOf odd none status
-  pull-empty a v = rw (a, v)
 
   pull-refused : readOf e 2313 .answer ≡ BadEnd
       → pullOf (takingAt 3) e ≡ record { what = RefusedRead BadEnd; block = none; host = takingAt 3; end = status }

@@ -44,11 +44,12 @@ impl TakingHost {
             let start = filled([0; 128], 0, bytes);
             return whole_or(start, 0);
         }
+        let fresh = [0u8; 128];
         Taken {
             what: Take::Out(number),
             block: [0; 128],
             host: TakingHost {
-                block: [0; 128],
+                block: fresh,
                 turn: 0,
             },
         }

@@ -19,7 +19,7 @@ use Rattle.end.specs.Message.{Message}
 use Rattle.report.specs.Taking.{takeOf}
 use Rattle.reportblocks.specs.Blocks.{counting, messageOf, messagesOf, messagesOfAll, Eight, givenBy}
 use Rattle.reportblocks.specs.Blocks.{inTurnFrom, joined, stretches}
-use Rattle.reportblocks.specs.Carried.{AllBlocks, Carried, CarriedTight}
+use Rattle.reportblocks.specs.Carried.{AllBlocks, Carried, CarriedTight, mostMissing}
 use Rattle.reportblocks.proofs.Stretches.{turn-none, turn-more, short, stretch-first}
 use Rattle.reportblocks.proofs.Taken.{exactly}
 
@@ -155,7 +155,7 @@ carried offered accepted taken bs s t =
       few = most _ _ _ _ (c .few) (length-append (t .rest) (s .rest)) (t .few) (s .begun);
     }
   where
-    most : (q n x y : ℕ) → 16 * q ≤ n + 15 → n ≡ x + y → x ≤ 3 → y ≤ 15 → q ≤ 2
+    most : (q n x y : ℕ) → 16 * q ≤ n + 15 → n ≡ x + y → x ≤ 3 → y ≤ 15 → q ≤ mostMissing
     most q n x y a b c d = omega arith
 
 -- Two blocks offered, the first one whole and number 0 of the second accepted, fourteen messages taken: none is whole

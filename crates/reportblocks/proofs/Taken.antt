@@ -1,5 +1,6 @@
 -- A taking host and any messages: what it hands over, and how it stands after them.
 --   exactly       the blocks handed over are the stretches of sixteen messages in turn
+--   after-append, given-append   messages behind messages
 --   part-stated   the part block after any messages
 -- Assumes nothing.
 use Prim.Native.Nat.{ℕ, zero, suc, _+_, _-_, _*_, _≤_, _<_}
@@ -221,10 +222,19 @@ ends (m ∷ ms) older h last a e =
         append-assoc older (last ++ (m ∷ [])) ms
         ∙ ap (λ (x : List Message). older ++ x) (append-assoc last (m ∷ []) ms)
 
-after-append : (a b : List Message) (h : TakingHost) → hostAfter h (a ++ b) ≡ hostAfter (hostAfter h a) b
+pub after-append : (a b : List Message) (h : TakingHost) → hostAfter h (a ++ b) ≡ hostAfter (hostAfter h a) b
 unfolding hostAfter
 after-append [] b h = refl
 after-append (m ∷ a) b h = after-append a b (takeOf h (m .number) (m .bytes) .host)
+
+pub given-append : (a b : List Message) (h : TakingHost)
+    → givenBy h (a ++ b) ≡ givenBy h a ++ givenBy (hostAfter h a) b
+unfolding givenBy hostAfter
+given-append [] b h = refl
+given-append (m ∷ a) b h =
+    let t = takeOf h (m .number) (m .bytes) in
+    ap (λ (x : List (List ℕ)). handedOver (t .what) (t .block) ++ x) (given-append a b (t .host))
+    ∙ sym (append-assoc (handedOver (t .what) (t .block)) _ _)
 
 -- a 0 starts, whatever came before
 starts : (h : TakingHost) (m : List ℕ) → takeOf h 0 m .host .turn ≡ 1

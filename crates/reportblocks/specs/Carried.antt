@@ -9,19 +9,21 @@
 --   mostMissing        how many blocks offered may be not handed over yet
 --   Carries n m        what demand 3 gives of messages, with at most n held, gives this of blocks, with at most m
 --                      missing: those handed over are the first so many offered, each once and whole
+--   sends-*            when a block counts as offered, computed
 --   Carried            at most two are missing where at most three messages are held; CarriedTight: not one
 -- Assumes nothing.
 use Prim.Native.Nat.{ℕ, _-_, _*_, _≤_}
 use mathlib.Core.Bool.{true}
 use mathlib.Core.List.{List, [], _∷_, _++_}
-use mathlib.Core.Path.{_≡_}
-use lib.ListN.{length, replicate}
+use mathlib.Core.Path.{_≡_, refl, ap}
+use native.Mathlib.Omega.{arith}
+use lib.ListN.{length, drop, replicate}
 use Rattle.joined.specs.Joined.{InTurn}
 use Rattle.end.specs.Message.{Message}
 use Rattle.report.specs.declared.TakingHost.{TakingHost}
 use Rattle.report.specs.Taking.{freshTaking}
 use Rattle.reportblocks.specs.Blocks.{IsBlock, messagesOfAll, Eight, givenBy, hostAfter, inTurnFrom, joined}
-use Rattle.reportblocks.specs.Blocks.{stretches}
+use Rattle.reportblocks.specs.Blocks.{stretches, messageOf, messagesOf, one}
 
 -- For any messages
 
@@ -67,3 +69,17 @@ Carried = Carries 3 mostMissing
 
 abbrev pub CarriedTight : Type 0
 CarriedTight = ¬ Carries 3 1
+
+-- A block counts as offered when its number 0 is accepted, and not before
+
+sends-first : Sends (one ∷ []) (messageOf one 0 ∷ [])
+unfolding messagesOfAll
+sends-first = record { rest = drop 1 (messagesOf one); whole = refl; begun = omega arith }
+
+sends-none : Sends (one ∷ []) [] → ⊥
+unfolding messagesOfAll
+sends-none s = let e = ap length (s .whole) in let f = s .begun in omega arith
+
+sends-whole : Sends (one ∷ []) (messagesOf one)
+unfolding messagesOfAll
+sends-whole = record { rest = []; whole = refl; begun = omega arith }

@@ -25,7 +25,8 @@ use Rattle.reportblocks.proofs.Carried.{carried}
 use Rattle.reportlink.specs.Reporting.{Reporter, World, resetWorld, Event, step, run, runBy, hosted}
 use Rattle.reportlink.specs.Demand.{Reported, still, Has, Stated, ByBlocks}
 use Rattle.reportlink.proofs.Accesses.{Follows, follow-none, follow-slot, follow-calls}
-use Rattle.reportlink.proofs.Hosting.{Keeps, keeps-reset, keeps-side, does}
+use Rattle.reportlink.proofs.Kept.{Keeps, keeps-reset, keeps-side}
+use Rattle.reportlink.proofs.Hosting.{does}
 
 -- a symbol that arrives is none of the host's business
 taking-host : (l : List ℕ) (s : Side) → taking l s .host ≡ s .host

@@ -1,2 +1,3 @@
 pub mod Reporting
 pub mod Demand
+pub mod Cases

@@ -1,6 +1,5 @@
 -- Long runs of two ends joined, which proofs/Computed.antt computes with the real ends, frames and CRC. Delays are 0
--- and nothing is marked.
---   one, two       blocks with the bytes 0 to 127 and 128 to 255
+-- and nothing is marked. Blocks one and two have the bytes 0 to 127 and 128 to 255.
 --   cycle          a's host pushes, 24 slots, b's host pulls: so long a message takes, its acknowledgement too
 --   crowded        fourteen parts of block one are taken, number 14 is in b's register, number 15 on its way, and
 --                  number 0 of block two is pending; later: it goes on with pulls
@@ -13,32 +12,17 @@
 use Prim.Native.Nat.{ℕ, zero, suc, _+_, _*_, _≤_, _<_}
 use mathlib.Core.Bool.{true}
 use mathlib.Core.List.{List, [], _∷_, _++_}
-use mathlib.Core.Path.{_≡_, refl}
+use mathlib.Core.Path.{_≡_}
 use native.Mathlib.Omega.{arith}
 use lib.ListN.{take, drop, replicate}
-use Rattle.laws.specs.Above.{above}
 use Rattle.joined.specs.Joined.{aToB, slot, atA, atB}
 use Rattle.link.specs.Link.{read, write, sound}
 use Rattle.link.specs.Link as link
 use Rattle.report.specs.Sending.{wordOf}
 use Rattle.report.specs.Taking.{freshTaking}
-use Rattle.reportblocks.specs.Blocks.{IsBlock, counting, givenBy}
+use Rattle.reportblocks.specs.Blocks.{IsBlock, givenBy, one, one-is, two, two-is}
 use Rattle.reportlink.specs.Reporting.{World, resetWorld, offer, push, pull, Event, run}
 use Rattle.reportlink.proofs.Pushing.{word-small}
-
-abbrev pub one : List ℕ
-one = counting 0 128
-
-abbrev pub two : List ℕ
-two = counting 128 128
-
-pub one-is : IsBlock one
-unfolding above
-one-is = record { size = refl; bytes = refl }
-
-pub two-is : IsBlock two
-unfolding above
-two-is = record { size = refl; bytes = refl }
 
 -- Two blocks missing
 

@@ -9,14 +9,14 @@ use Rattle.bench.proofs.serve.serve.Statement.{statement}
 use Rattle.bench.proofs.serve.serve.Tie as tie
 
 abbrev Inv-loop : tie.InvT-loop
-Inv-loop text₀ symbols₀ out₀ sent₀ link₀ console₀ turns₀ text symbols out sent link console turns =
+Inv-loop text₀ symbols₀ out₀ sent₀ bench₀ console₀ turns₀ text symbols out sent bench console turns =
     Ready console text out
     × (length text ≡ length text₀)
     × (length symbols ≡ length symbols₀)
     × (length out ≡ length out₀)
 
 abbrev μ-loop : tie.MeasureT-loop
-μ-loop text₀ symbols₀ out₀ sent₀ link₀ console₀ turns₀ text symbols out sent link console turns = turns
+μ-loop text₀ symbols₀ out₀ sent₀ bench₀ console₀ turns₀ text symbols out sent bench console turns = turns
 
 start-requires : tie.Need-start-requires Inv-loop μ-loop
 start-requires c κs = search needs

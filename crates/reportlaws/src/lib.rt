@@ -1,0 +1,1 @@
+// Specs and proofs only: what is true of every reporting host.

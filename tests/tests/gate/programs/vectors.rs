@@ -57,7 +57,7 @@ fn with_story(channel: (&str, usize), name: &str) -> Vec<Vector> {
 
 fn t1_vectors() -> Vec<Vector> {
     let mut found = with_story(T1, "freeze");
-    found.extend(vectors(REPORTS));
+    found.extend(with_story(REPORTS, "report"));
     found
 }
 
@@ -127,7 +127,7 @@ fn proved_prints_those_of_fibre() {
 /// The pages show the stories with the output that the programs are held to.
 #[test]
 fn pages_show_the_stories() {
-    for (page, name) in [("README.md", "freeze"), ("docs/FIBRE.md", "fibre")] {
+    for (page, name) in [("README.md", "freeze"), ("docs/REPORT.md", "report"), ("docs/FIBRE.md", "fibre")] {
         let text = fs::read_to_string(package().join("..").join(page)).expect("a page can be read");
         let block = format!("```text\n{}```\n", played(story(name)));
         assert!(text.contains(&block), "{} does not show docs/{}.txt with its output", page, name);

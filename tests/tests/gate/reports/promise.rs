@@ -1,5 +1,6 @@
-//! Crate `report` sees only the promise of the ends: it names no field of `End`, and takes from crate `end` the types
-//! of its calls and the two definitions of what reading and writing a register give, which it does not unfold.
+//! Crate `report`, its laws and its blocks see only the promise of the ends: they name no field of `End`, and take from
+//! crate `end` the types of its calls, what a message is, and the two definitions of what reading and writing a register
+//! give, which they do not unfold.
 
 use second::proved::package;
 use std::collections::BTreeSet;
@@ -13,6 +14,18 @@ const DECLARED: [&str; 2] = ["end/src/lib.rt", "receiver/src/lib.rt"];
 const TYPES: [&str; 3] = ["End", "Next", "Read"];
 const DEFINITIONS: [&str; 2] = ["readOf", "writeOf"];
 const REGISTERS: &str = "Rattle.end.specs.Registers";
+const MESSAGE: &str = "Rattle.end.specs.Message.{Message}";
+
+/// The crates that keep to the promise, with what each of their rooms has.
+const ROOMS: [(&str, &str, &str); 7] = [
+    ("report", "src", "rt"),
+    ("report", "specs", "antt"),
+    ("report", "proofs", "antt"),
+    ("reportlaws", "specs", "antt"),
+    ("reportlaws", "proofs", "antt"),
+    ("reportblocks", "specs", "antt"),
+    ("reportblocks", "proofs", "antt"),
+];
 
 type Names = BTreeSet<String>;
 
@@ -108,6 +121,7 @@ fn is_allowed(line: &str) -> bool {
     };
     let definitions = path.strip_prefix(REGISTERS).and_then(|names| names.strip_prefix(".{")?.strip_suffix('}'));
     TYPES.iter().any(of_a_type)
+        || path == MESSAGE
         || definitions.map_or(false, |names| names.split(", ").all(|name| DEFINITIONS.contains(&name)))
 }
 
@@ -153,13 +167,13 @@ fn files(folder: &Path, ending: &str) -> Vec<PathBuf> {
 }
 
 #[test]
-fn report_sees_only_the_promise() {
+fn reports_see_only_the_promise() {
     let fields = fields();
-    for (room, ending) in [("src", "rt"), ("specs", "antt"), ("proofs", "antt")] {
-        let found = files(&crates().join("report").join(room), ending);
-        assert!(!found.is_empty(), "crate report has nothing in {}", room);
+    for (name, room, ending) in ROOMS {
+        let found = files(&crates().join(name).join(room), ending);
+        assert!(!found.is_empty(), "crate {} has nothing in {}", name, room);
         for path in found {
-            let text = fs::read_to_string(&path).expect("a file of crate report can be read");
+            let text = fs::read_to_string(&path).expect("a file of these crates can be read");
             if let Some(what) = breaks(&text, &fields) {
                 panic!("{} {}", path.display(), what);
             }
@@ -187,6 +201,7 @@ fn told_from_what_is_allowed() {
         "use end::End;\nuse end::Next;\nuse end::Read;\n",
         "ghost use Rattle.end.specs.Registers.{readOf, writeOf};\nghost use Rattle.end.specs.declared.End.{End};\n",
         "use Rattle.end.specs.declared.Next.{Next}\nuse Rattle.end.specs.declared.Read.{Read}\n",
+        "use Rattle.end.specs.Message.{Message}\n",
         "use Rattle.end.specs.Registers.{writeOf}\nuse Rattle.endlaws.specs.Presence.{leftBy}\n",
         "let next = host.push(end).end;\nlet bytes = read.value;\nr .end\nc .before .end .ensures\n",
         "x .number\nself.block[8 * n]\nlet sender = self;\nr .sending .bytes\nend.write(2309, value)\n",
@@ -216,6 +231,7 @@ fn told_from_what_is_allowed() {
         "use Rattle.end.specs.Registers.{readOf, written}\n",
         "use Rattle.end.specs.Registers.{}\n",
         "use Rattle.end.specs.Parts.{withOutbox}\n",
+        "use Rattle.end.specs.Message.{Message, messageIn}\n",
         "use Rattle.end.proofs.RegisterLaws.{write-done}\n",
         "use Rattle.end.specs.Registers as registers\n",
         "use Rattle.receiver.specs.declared.Inbox.{Inbox}\n",

@@ -6,7 +6,7 @@
 --   take-*       in turn, out of turn, and numbers and turns that no message has
 --   pull-*       a message, none, and what is refused
 -- Assumes nothing.
-use Prim.Native.Nat.{ℕ}
+use Prim.Native.Nat.{ℕ, _+_, _-_, _*_}
 use mathlib.Core.List.{List, [], _∷_, _++_, map}
 use mathlib.Core.Path.{_≡_, refl}
 use lib.ListN.{replicate}
@@ -59,9 +59,27 @@ push-beyond : (e : End) → pushOf (sendingAt 255) e ≡ record { what = Idle; h
 unfolding pushOf
 push-beyond e = refl
 
--- the bytes of number 1 are 8 to 15, the even one of a register in its bits 7:0
-push-words : map (wordOf (counting 0 128) 1) (0 ∷ 1 ∷ 2 ∷ 3 ∷ []) ≡ 0x0908 ∷ 0x0B0A ∷ 0x0D0C ∷ 0x0F0E ∷ []
+-- the words of the numbers 0 to 15, the even byte of a register in its bits 7:0
+push-words : map (λ n. map (wordOf (counting 0 128) n) (0 ∷ 1 ∷ 2 ∷ 3 ∷ [])) (counting 0 16)
+    ≡ (0x0100 ∷ 0x0302 ∷ 0x0504 ∷ 0x0706 ∷ [])
+    ∷ (0x0908 ∷ 0x0B0A ∷ 0x0D0C ∷ 0x0F0E ∷ [])
+    ∷ (0x1110 ∷ 0x1312 ∷ 0x1514 ∷ 0x1716 ∷ [])
+    ∷ (0x1918 ∷ 0x1B1A ∷ 0x1D1C ∷ 0x1F1E ∷ [])
+    ∷ (0x2120 ∷ 0x2322 ∷ 0x2524 ∷ 0x2726 ∷ [])
+    ∷ (0x2928 ∷ 0x2B2A ∷ 0x2D2C ∷ 0x2F2E ∷ [])
+    ∷ (0x3130 ∷ 0x3332 ∷ 0x3534 ∷ 0x3736 ∷ [])
+    ∷ (0x3938 ∷ 0x3B3A ∷ 0x3D3C ∷ 0x3F3E ∷ [])
+    ∷ (0x4140 ∷ 0x4342 ∷ 0x4544 ∷ 0x4746 ∷ [])
+    ∷ (0x4948 ∷ 0x4B4A ∷ 0x4D4C ∷ 0x4F4E ∷ [])
+    ∷ (0x5150 ∷ 0x5352 ∷ 0x5554 ∷ 0x5756 ∷ [])
+    ∷ (0x5958 ∷ 0x5B5A ∷ 0x5D5C ∷ 0x5F5E ∷ [])
+    ∷ (0x6160 ∷ 0x6362 ∷ 0x6564 ∷ 0x6766 ∷ [])
+    ∷ (0x6968 ∷ 0x6B6A ∷ 0x6D6C ∷ 0x6F6E ∷ [])
+    ∷ (0x7170 ∷ 0x7372 ∷ 0x7574 ∷ 0x7776 ∷ [])
+    ∷ (0x7978 ∷ 0x7B7A ∷ 0x7D7C ∷ 0x7F7E ∷ []) ∷ []
 push-words = refl
+
+-- the bytes of number 1 are 8 to 15
 
 module _ (e : End) where
   after-one : End
@@ -153,6 +171,40 @@ take-out : map (λ n. takeOf (takingAt 5) n worked) (4 ∷ 6 ∷ 15 ∷ 16 ∷ 2
     (4 ∷ 6 ∷ 15 ∷ 16 ∷ 255 ∷ [])
 unfolding takeOf none
 take-out = refl
+
+-- the turn after each number, in a row for each turn: a 0 starts, the number in turn goes on, 15 in turn and every other
+-- number leave a fresh host
+take-turns : map (λ t. map (λ n. takeOf (takingAt t) n worked .host .turn) (counting 0 16)) (counting 0 16)
+    ≡ (1 ∷ 0 ∷ 0 ∷ 0 ∷ 0 ∷ 0 ∷ 0 ∷ 0 ∷ 0 ∷ 0 ∷ 0 ∷ 0 ∷ 0 ∷ 0 ∷ 0 ∷ 0 ∷ [])
+    ∷ (1 ∷ 2 ∷ 0 ∷ 0 ∷ 0 ∷ 0 ∷ 0 ∷ 0 ∷ 0 ∷ 0 ∷ 0 ∷ 0 ∷ 0 ∷ 0 ∷ 0 ∷ 0 ∷ [])
+    ∷ (1 ∷ 0 ∷ 3 ∷ 0 ∷ 0 ∷ 0 ∷ 0 ∷ 0 ∷ 0 ∷ 0 ∷ 0 ∷ 0 ∷ 0 ∷ 0 ∷ 0 ∷ 0 ∷ [])
+    ∷ (1 ∷ 0 ∷ 0 ∷ 4 ∷ 0 ∷ 0 ∷ 0 ∷ 0 ∷ 0 ∷ 0 ∷ 0 ∷ 0 ∷ 0 ∷ 0 ∷ 0 ∷ 0 ∷ [])
+    ∷ (1 ∷ 0 ∷ 0 ∷ 0 ∷ 5 ∷ 0 ∷ 0 ∷ 0 ∷ 0 ∷ 0 ∷ 0 ∷ 0 ∷ 0 ∷ 0 ∷ 0 ∷ 0 ∷ [])
+    ∷ (1 ∷ 0 ∷ 0 ∷ 0 ∷ 0 ∷ 6 ∷ 0 ∷ 0 ∷ 0 ∷ 0 ∷ 0 ∷ 0 ∷ 0 ∷ 0 ∷ 0 ∷ 0 ∷ [])
+    ∷ (1 ∷ 0 ∷ 0 ∷ 0 ∷ 0 ∷ 0 ∷ 7 ∷ 0 ∷ 0 ∷ 0 ∷ 0 ∷ 0 ∷ 0 ∷ 0 ∷ 0 ∷ 0 ∷ [])
+    ∷ (1 ∷ 0 ∷ 0 ∷ 0 ∷ 0 ∷ 0 ∷ 0 ∷ 8 ∷ 0 ∷ 0 ∷ 0 ∷ 0 ∷ 0 ∷ 0 ∷ 0 ∷ 0 ∷ [])
+    ∷ (1 ∷ 0 ∷ 0 ∷ 0 ∷ 0 ∷ 0 ∷ 0 ∷ 0 ∷ 9 ∷ 0 ∷ 0 ∷ 0 ∷ 0 ∷ 0 ∷ 0 ∷ 0 ∷ [])
+    ∷ (1 ∷ 0 ∷ 0 ∷ 0 ∷ 0 ∷ 0 ∷ 0 ∷ 0 ∷ 0 ∷ 10 ∷ 0 ∷ 0 ∷ 0 ∷ 0 ∷ 0 ∷ 0 ∷ [])
+    ∷ (1 ∷ 0 ∷ 0 ∷ 0 ∷ 0 ∷ 0 ∷ 0 ∷ 0 ∷ 0 ∷ 0 ∷ 11 ∷ 0 ∷ 0 ∷ 0 ∷ 0 ∷ 0 ∷ [])
+    ∷ (1 ∷ 0 ∷ 0 ∷ 0 ∷ 0 ∷ 0 ∷ 0 ∷ 0 ∷ 0 ∷ 0 ∷ 0 ∷ 12 ∷ 0 ∷ 0 ∷ 0 ∷ 0 ∷ [])
+    ∷ (1 ∷ 0 ∷ 0 ∷ 0 ∷ 0 ∷ 0 ∷ 0 ∷ 0 ∷ 0 ∷ 0 ∷ 0 ∷ 0 ∷ 13 ∷ 0 ∷ 0 ∷ 0 ∷ [])
+    ∷ (1 ∷ 0 ∷ 0 ∷ 0 ∷ 0 ∷ 0 ∷ 0 ∷ 0 ∷ 0 ∷ 0 ∷ 0 ∷ 0 ∷ 0 ∷ 14 ∷ 0 ∷ 0 ∷ [])
+    ∷ (1 ∷ 0 ∷ 0 ∷ 0 ∷ 0 ∷ 0 ∷ 0 ∷ 0 ∷ 0 ∷ 0 ∷ 0 ∷ 0 ∷ 0 ∷ 0 ∷ 15 ∷ 0 ∷ [])
+    ∷ (1 ∷ 0 ∷ 0 ∷ 0 ∷ 0 ∷ 0 ∷ 0 ∷ 0 ∷ 0 ∷ 0 ∷ 0 ∷ 0 ∷ 0 ∷ 0 ∷ 0 ∷ 0 ∷ []) ∷ []
+unfolding takeOf
+take-turns = refl
+
+-- in turn the message stands in its place, whichever it is, and all other bytes stay
+take-places : map (λ n. takeOf (takingAt n) n worked .host .block) (counting 0 15)
+    ≡ map (λ n. counting 0 (8 * n) ++ (worked ++ counting (8 * n + 8) (120 - 8 * n))) (counting 0 15)
+unfolding takeOf
+take-places = refl
+
+-- nothing is handed over but by 15 in turn
+take-handed : map (λ t. map (λ n. takeOf (takingAt t) n worked .block) (counting 0 15)) (counting 0 16)
+    ≡ replicate 16 (replicate 15 (replicate 128 0))
+unfolding takeOf
+take-handed = refl
 
 -- no number above 15 is in turn, whatever the turn
 take-beyond : map (λ n. takeOf (takingAt n) n worked) (16 ∷ 255 ∷ [])

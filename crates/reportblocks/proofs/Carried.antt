@@ -2,9 +2,9 @@
 --   block-stretch   the messages of a block are one stretch, which has its bytes
 --   cut             where the messages of blocks are cut off, the blocks that are whole before the cut are the stretches
 --   carried         the blocks handed over are the first so many offered, at most two fewer
---   carried-tight   and not at most one
+--   carried-tight   and not at most one fewer
 -- Assumes nothing.
-use Prim.Native.Nat.{ℕ, zero, suc, _+_, _*_, _≤_}
+use Prim.Native.Nat.{ℕ, zero, suc, _+_, _-_, _*_, _≤_}
 use mathlib.Core.Bool.{Bool, true, false}
 use mathlib.Core.List.{List, [], _∷_, _++_, append-assoc, map}
 use mathlib.Core.Path.{_≡_, refl, sym, ap, _∙_}
@@ -75,7 +75,7 @@ eight-front : (a b : List Message) → Eight (a ++ b) → Eight a
 eight-front [] b h = tt
 eight-front (m ∷ a) b h = (h .0, eight-front a b (h .1))
 
-all-eight : (bs : List (List ℕ)) → AllBlocks bs → Eight (messagesOfAll bs)
+pub all-eight : (bs : List (List ℕ)) → AllBlocks bs → Eight (messagesOfAll bs)
 unfolding messagesOfAll
 all-eight [] h = tt
 all-eight (b ∷ bs) h =
@@ -172,8 +172,8 @@ carried-tight c =
     (record { rest = drop 17 (messagesOfAll (zeroes ∷ zeroes ∷ [])); whole = refl; begun = omega arith })
     (record { rest = drop 14 (take 17 (messagesOfAll (zeroes ∷ zeroes ∷ []))); whole = refl; few = omega arith }))
   where
-    too-few : InTurn 1 (zeroes ∷ zeroes ∷ []) [] → ⊥
+    too-few : InTurn (mostMissing - 1) (zeroes ∷ zeroes ∷ []) [] → ⊥
     too-few t = two _ (ap length (t .whole)) (t .few)
       where
-        two : (n : ℕ) → 2 ≡ n → n ≤ 1 → ⊥
+        two : (n : ℕ) → 2 ≡ n → n ≤ mostMissing - 1 → ⊥
         two n a b = omega arith

@@ -1,3 +1,4 @@
 pub mod Stretches
 pub mod Taken
 pub mod Carried
+pub mod Asked

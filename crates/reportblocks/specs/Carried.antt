@@ -1,6 +1,7 @@
 -- What is true of blocks that are carried as messages: request #110, from demand 3's promise alone.
 --   Stands h ms        after the messages ms the taking host is h: the last of them, as many as its turn says, have the
 --                      numbers from 0 on, and the part block has their bytes, and zero bytes behind them
+--   StandsOne          and no other host stands so after them
 --   Exactly            for a fresh taking host and any messages: the blocks handed over are the stretches of sixteen
 --                      messages with the numbers 0 to 15, every one, in order
 --   PartStated         and how the host stands after them
@@ -10,7 +11,7 @@
 --   Carries n m        what demand 3 gives of messages, with at most n held, gives this of blocks, with at most m
 --                      missing: those handed over are the first so many offered, each once and whole
 --   sends-*            when a block counts as offered, computed
---   Carried            at most two are missing where at most three messages are held; CarriedTight: not one
+--   Carried            at most two are missing where at most three messages are held; CarriedTight: no fewer
 -- Assumes nothing.
 use Prim.Native.Nat.{ℕ, _-_, _*_, _≤_}
 use mathlib.Core.Bool.{true}
@@ -38,6 +39,10 @@ pub record Stands (h : TakingHost) (ms : List Message) : Type 0 where
   -- and no more of them: any last messages with the numbers from 0 on are those
   pub no-more : (a b : List Message) → ms ≡ a ++ b → 1 ≤ length b → length b ≤ 15 → inTurnFrom 0 (length b) b ≡ true
       → h .turn ≡ length b
+
+-- this leaves no choice: two hosts that stand so after one list of messages are one
+abbrev pub StandsOne : Type 0
+StandsOne = (h g : TakingHost) (ms : List Message) → Stands h ms → Stands g ms → h ≡ g
 
 abbrev pub Exactly : Type 0
 Exactly = (ms : List Message) → Eight ms → givenBy freshTaking ms ≡ stretches ms
@@ -68,7 +73,7 @@ abbrev pub Carried : Type 0
 Carried = Carries 3 mostMissing
 
 abbrev pub CarriedTight : Type 0
-CarriedTight = ¬ Carries 3 1
+CarriedTight = ¬ Carries 3 (mostMissing - 1)
 
 -- A block counts as offered when its number 0 is accepted, and not before
 

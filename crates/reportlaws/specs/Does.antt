@@ -1,7 +1,7 @@
 -- What each call does, field by field: h and e are the host and the end before it, r is what it gives. Bytes are said
 -- one by one: getD l i 0 is the byte i of l, counted from 0.
 --   Zeros l            128 bytes, each of them 0
---   Bytes n l          n bytes of eight bits
+--   Bytes n l          n bytes of eight bits; bytes-any: any such
 --   Holds v a b        the register's value v has the byte a in bits 7:0 and the byte b in bits 15:8
 --   FreshSending k     a fresh sending host: no block is under way
 --   Offers h b r       offer, of the block b: Accepts or Refuses
@@ -42,6 +42,9 @@ Zeros l = (length l ≡ 128) × ((i : ℕ) → getD l i 0 ≡ 0)
 
 abbrev pub Bytes : ℕ → List ℕ → Type 0
 Bytes n l = (length l ≡ n) × ((i : ℕ) → getD l i 0 < 256)
+
+bytes-any : (n : ℕ) (l : List ℕ) → length l ≡ n → ((i : ℕ) → getD l i 0 < 256) → Bytes n l
+bytes-any n l s h = (s, h)
 
 pub record Holds (v a b : ℕ) : Type 0 where
   pub low : v % 2 ^ 8 ≡ a

@@ -10,7 +10,7 @@ use Rattle.laws.specs.Above.{above}
 use Rattle.end.specs.Good.{bad}
 use Rattle.end.specs.Sending.{acked, frameStart, sendOf}
 use Rattle.end.specs.Taking.{taken, takeOf}
-use Rattle.end.specs.Registers.{readOf, writeOf}
+use Rattle.end.specs.Registers.{readOf, writeOf, healthOf}
 use Rattle.link.specs.Link.{bytesOf, taking}
 use Rattle.report.specs.Sending.{offerOf, pushOf}
 use Rattle.report.specs.Taking.{takeOf as takenOf, pullOf}
@@ -19,7 +19,7 @@ use Rattle.reportlink.specs.Cases.{Cases}
 
 pub cases : Cases
 unfolding runBy taking bytesOf puts gets offerOf pushOf takenOf pullOf
-    above bad readOf writeOf sendOf acked frameStart taken takeOf
+    above bad readOf writeOf healthOf sendOf acked frameStart taken takeOf
     odd xor bits number oddOnes plus times shift fed crc
     generator stream crcOf even evenSymbol oddSymbol symbols build crcRight
 cases = record {
@@ -50,4 +50,8 @@ cases = record {
   may-write = refl;
   may-health = refl;
   may-ask = refl;
+  other-bytes = refl;
+  other-ping = refl;
+  other-health = refl;
+  other-between = refl;
 }

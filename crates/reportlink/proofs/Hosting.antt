@@ -254,7 +254,11 @@ pushed-end h x = either (λ (p : Pushed). p .end ≡ x .end) (done (x .answer)) 
 
 pub ends-agree : (s : Reporter) → EndsAgree s
 unfolding pushOf chain
-ends-agree s = record { push-end = push-go (underWay h) refl; pull-end = pull-go (message (readOf e 2313)) refl }
+ends-agree s = record {
+  push-end = push-go (underWay h) refl;
+  pull-end = pull-go (message (readOf e 2313)) refl;
+  other-side = λ c k. refl;
+}
   where
     h : SendingHost
     h = s .sending

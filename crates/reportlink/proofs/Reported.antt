@@ -2,6 +2,7 @@
 --   reported     they are handed over as the first so many offered, each once and whole, at most two fewer
 --   stated       what both hosts have
 --   by-blocks    the same for hosts of any kind whose messages accepted are those of blocks
+--   asked-back, asked-forth   no more is asked
 -- Assumes nothing.
 use Prim.Native.Nat.{ℕ, zero, suc, _-_, _≤_}
 use mathlib.Core.List.{List, [], _∷_}
@@ -137,3 +138,13 @@ stated d D E es w e = subst (λ (x : World). Has (near d x) × Has (far d x)) (s
 
 pub by-blocks : ByBlocks
 by-blocks offered bs d D E es h w e s = carried offered _ _ bs s (nothing-lost d D E es h w e)
+
+-- No more is asked than any delays, any events and either direction
+
+asked-back : Reported → (D E : ℕ) (es : List Event)
+    → InTurn mostMissing (run D E es resetWorld .b .offered) (run D E es resetWorld .a .handed)
+asked-back r D E es = r bToA D E es (run D E es resetWorld) refl
+
+asked-forth : Reported → (D E : ℕ) (es : List Event)
+    → InTurn mostMissing (run D E es resetWorld .a .offered) (run D E es resetWorld .b .handed)
+asked-forth r D E es = r aToB D E es (run D E es resetWorld) refl

@@ -3,20 +3,22 @@
 --   begun            a's host has offered it, and made one step; twice: and another one at once
 --   later n          after that and n slots
 --   pulled n         b's host has made a step then
+--   small, pings     values in their ranges; a write that sets PingTx alone is no message
 --   Cases            what is true of these runs
 -- Assumes nothing.
 use Prim.Native.Nat.{ℕ, _≤_, _<_}
 use mathlib.Core.Bool.{true, false}
 use mathlib.Core.List.{List, [], _∷_, _++_}
-use mathlib.Core.Path.{_≡_}
+use mathlib.Core.Path.{_≡_, refl}
 use native.Mathlib.Omega.{arith}
 use lib.ListN.{drop, replicate}
+use Rattle.crc.specs.Bits.{odd}
 use Rattle.joined.specs.Joined.{slot, atA, atB}
 use Rattle.end.specs.Registers.{readOf}
 use Rattle.link.specs.Link.{read, write, health, present, sound, mark}
 use Rattle.report.specs.Taking.{freshTaking}
 use Rattle.reportblocks.specs.Blocks.{counting, messageOf, messagesOf, one, one-is}
-use Rattle.reportlink.specs.Reporting.{World, resetWorld, besides, offer, push, pull, Event, run}
+use Rattle.reportlink.specs.Reporting.{World, resetWorld, besides, offer, push, pull, other, Event, run}
 use Rattle.reportlink.specs.Demand.{still}
 
 abbrev pub begun : World
@@ -33,6 +35,10 @@ pulled n = run 0 0 (atB pull ∷ []) (later n)
 
 pub small : (0x8000 < 65536) × (0x0004 < 65536) × (512 ≤ 512) × (512 < 1024)
 small = (omega arith, omega arith, omega arith, omega arith)
+
+pub pings : besides (write 2308 0x0004 (small .1)) ≡ true
+unfolding odd
+pings = refl
 
 pub record Cases : Type 0 where
   -- a block counts as offered when its number 0 is accepted
@@ -73,3 +79,14 @@ pub record Cases : Type 0 where
   pub may-write : besides (write 2309 0x8000 (small .0)) ≡ true
   pub may-health : besides (health 3) ≡ true
   pub may-ask : besides present ≡ true
+  -- and what they do: bytes that are written and read back, PingTx, the health to send
+  pub other-bytes :
+      readOf (run 0 0 (atA (other (write 2310 0x8000 (small .0)) refl) ∷ []) resetWorld .a .side .end) 2310 .value ≡ 0x8000
+  pub other-ping :
+      readOf (run 0 0 (atB (other (write 2308 0x0004 (small .1)) pings) ∷ []) resetWorld .b .side .end) 2308 .value ≡ 0x0004
+  pub other-health :
+      readOf (run 0 0 (atA (other (health 3) refl) ∷ quiet 1) resetWorld .a .side .end) 2308 .value ≡ 0x0003
+  -- bytes that were written between two steps are not those of the next part
+  pub other-between :
+      run 0 0 (atA (other (write 2310 0x8000 (small .0)) refl) ∷ atA push ∷ []) (later 1) .a .side .host .accepted
+      ≡ messageOf one 0 ∷ messageOf one 1 ∷ []

@@ -1,9 +1,10 @@
 -- Request #110 over the runs of two ends joined: blocks go from the near side to the far one.
 --   Always       true after every run of two reporting hosts, both ways and all delays, whatever is marked
---   Reported     the blocks handed over are the first so many offered, each once and whole, at most two fewer
+--   Reported     the blocks handed over are the first so many offered, each once and whole, at most two fewer;
+--                ReportedIn: at most so many
 --   Stated       what the hosts have, from the messages that were accepted and taken
 --   still h      the messages of the block under way that were not accepted yet, where its number 0 was
---   EndsAgree    a side's end after a step of a host is the one that the step gives
+--   EndsAgree    a side's end after a step of a host is the one that the step gives; any other call is the side's own
 --   ByBlocks     the same as Reported for hosts of any kind whose messages accepted are those of blocks, in turn; the
 --                host that takes keeps the rule, and the taking host is given the messages taken
 -- Assumes nothing.
@@ -14,20 +15,25 @@ use mathlib.Core.Path.{_≡_}
 use lib.Dec.{eqb}
 use Rattle.joined.specs.Joined.{Direction, near, far, InTurn}
 use Rattle.end.specs.Message.{Message}
+use Rattle.link.specs.Link.{Access, hosted as called}
 use Rattle.link.specs.Demand.{ByRule}
 use Rattle.report.specs.declared.SendingHost.{SendingHost}
 use Rattle.report.specs.Sending.{underWay, pushOf}
 use Rattle.report.specs.Taking.{freshTaking, pullOf}
 use Rattle.reportblocks.specs.Blocks.{messageOf, counting, messagesOfAll, givenBy, hostAfter}
 use Rattle.reportblocks.specs.Carried.{AllBlocks, Sends, mostMissing}
-use Rattle.reportlink.specs.Reporting.{Reporter, World, resetWorld, Event, run, push, pull, hosted}
+use Rattle.reportlink.specs.Reporting.{Reporter, World, resetWorld, besides, Event, run, push, pull}
+use Rattle.reportlink.specs.Reporting.{other, hosted}
 
 abbrev pub Always : (Reporter → Reporter → Type 0) → Type 0
 Always P =
     (d : Direction) (D E : ℕ) (es : List Event) (w : World) → w ≡ run D E es resetWorld → P (near d w) (far d w)
 
+abbrev pub ReportedIn : ℕ → Type 0
+ReportedIn most = Always (λ near far. InTurn most (near .offered) (far .handed))
+
 abbrev pub Reported : Type 0
-Reported = Always (λ near far. InTurn mostMissing (near .offered) (far .handed))
+Reported = ReportedIn mostMissing
 
 abbrev pub still : SendingHost → List Message
 still h =
@@ -48,6 +54,7 @@ Stated = Always (λ near far. Has near × Has far)
 pub record EndsAgree (s : Reporter) : Type 0 where
   pub push-end : hosted push s .side .end ≡ pushOf (s .sending) (s .side .end) .end
   pub pull-end : hosted pull s .side .end ≡ pullOf (s .taking) (s .side .end) .end
+  pub other-side : (c : Access) (k : besides c ≡ true) → hosted (other c k) s .side ≡ called c (s .side)
 
 abbrev pub ByBlocks : Type 0
 ByBlocks =

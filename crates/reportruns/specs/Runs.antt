@@ -1,27 +1,30 @@
 -- Long runs of two ends joined, which proofs/Computed.antt computes with the real ends, frames and CRC. Delays are 0
 -- and nothing is marked. Blocks one and two have the bytes 0 to 127 and 128 to 255.
 --   cycle          a's host pushes, 24 slots, b's host pulls: so long a message takes, its acknowledgement too
---   crowded        fourteen parts of block one are taken, number 14 is in b's register, number 15 on its way, and
+--   crowding, crowded   fourteen parts of block one are taken, number 14 is in b's register, number 15 on its way, and
 --                  number 0 of block two is pending; later: it goes on with pulls
 --   TwoFewer       two blocks are offered, and none is handed over; the first one is, once its last parts are taken
+--   ReportedTight  so in every run at most one fewer is false
 --   spliced        a's host does not push: it writes the numbers 0 to 7 of block one and the numbers 8 to 15 of block
 --                  two, each as it stands; b's host takes them by the rule
 --   Splices        a block is handed over that nobody offered: the taking host cannot tell parts of two blocks apart
 --                  where their numbers are in turn
 -- Assumes nothing.
-use Prim.Native.Nat.{ℕ, zero, suc, _+_, _*_, _≤_, _<_}
+use Prim.Native.Nat.{ℕ, zero, suc, _+_, _-_, _*_, _≤_, _<_}
 use mathlib.Core.Bool.{true}
 use mathlib.Core.List.{List, [], _∷_, _++_}
 use mathlib.Core.Path.{_≡_}
 use native.Mathlib.Omega.{arith}
 use lib.ListN.{take, drop, replicate}
-use Rattle.joined.specs.Joined.{aToB, slot, atA, atB}
+use Rattle.joined.specs.Joined.{Direction, slot, atA, atB}
 use Rattle.link.specs.Link.{read, write, sound}
 use Rattle.link.specs.Link as link
 use Rattle.report.specs.Sending.{wordOf}
 use Rattle.report.specs.Taking.{freshTaking}
 use Rattle.reportblocks.specs.Blocks.{IsBlock, givenBy, one, one-is, two, two-is}
+use Rattle.reportblocks.specs.Carried.{mostMissing}
 use Rattle.reportlink.specs.Reporting.{World, resetWorld, offer, push, pull, Event, run}
+use Rattle.reportlink.specs.Demand.{ReportedIn}
 use Rattle.reportlink.proofs.Pushing.{word-small}
 
 -- Two blocks missing
@@ -36,12 +39,13 @@ unfoldable pub cycles : ℕ → List Event
 cycles zero = []
 cycles (suc n) = cycle ++ cycles n
 
+unfoldable pub crowding : List Event
+crowding =
+    atA (offer one one-is)
+    ∷ (cycles 14 ++ (atA push ∷ (quiet 24 ++ (atA push ∷ (quiet 1 ++ (atA (offer two two-is) ∷ atA push ∷ []))))))
+
 unfoldable pub crowded : World
-crowded =
-    run 0 0
-    (atA (offer one one-is)
-    ∷ (cycles 14 ++ (atA push ∷ (quiet 24 ++ (atA push ∷ (quiet 1 ++ (atA (offer two two-is) ∷ atA push ∷ [])))))))
-    resetWorld
+crowded = run 0 0 crowding resetWorld
 
 unfoldable pub later : World
 later = run 0 0 (atB pull ∷ (quiet 24 ++ (atB pull ∷ []))) crowded
@@ -50,6 +54,9 @@ pub record TwoFewer : Type 0 where
   pub offered : crowded .a .offered ≡ one ∷ two ∷ []
   pub handed : crowded .b .handed ≡ []
   pub handed-later : later .b .handed ≡ one ∷ []
+
+abbrev pub ReportedTight : Type 0
+ReportedTight = ¬ ReportedIn (mostMissing - 1)
 
 -- Two blocks spliced
 
@@ -76,5 +83,5 @@ unfoldable pub spliced : link.World
 spliced = link.run 0 0 direct link.resetWorld
 
 pub record Splices : Type 0 where
-  pub ruled : link.ruled aToB 0 0 direct link.resetWorld ≡ true
+  pub ruled : (d : Direction) → link.ruled d 0 0 direct link.resetWorld ≡ true
   pub handed : givenBy freshTaking (spliced .b .host .taken) ≡ (take 64 one ++ drop 64 two) ∷ []

@@ -1,5 +1,5 @@
 -- Computed cases, worked out by hand from request #110 (specs/Worked.antt has the hosts and the message that they start
--- from): the whole result of each step. Of an end nothing is known but what it answers.
+-- from): the whole result of each step. Of an end nothing is known but what it answers and what it gives to a read.
 --   fresh-*      hosts at the beginning
 --   offer-*      while a block is under way, and while none is
 --   push-*       a part, and what is refused
@@ -18,8 +18,8 @@ use Rattle.end.specs.Registers.{readOf, writeOf}
 use Rattle.report.specs.declared.Push.the-variants.{Idle, Waits, Refused as RefusedWrite, Part as Pushes}
 use Rattle.report.specs.declared.Take.the-variants.{Part, Out, Whole}
 use Rattle.report.specs.declared.Pull.the-variants.{Refused as RefusedRead, Empty, Took}
-use Rattle.report.specs.Sending.{wordOf, freshSending, offerOf, pushOf}
-use Rattle.report.specs.Taking.{freshTaking, takeOf, pullOf}
+use Rattle.report.specs.Sending.{wordOf, thenWrite, writtenOf, freshSending, offerOf, pushedBy, pushOf}
+use Rattle.report.specs.Taking.{freshTaking, takeOf, pulledBy, pullOf}
 use Rattle.report.specs.Counting.{counting}
 use Rattle.report.specs.Worked.{sendingAt, takingAt, worked}
 
@@ -36,28 +36,45 @@ fresh-taking = refl
 
 -- Offer
 
-offer-refused : map (λ n. numberOf (offerOf (sendingAt n) (counting 128 128) .answer)) (0 ∷ 1 ∷ 15 ∷ 16 ∷ 17 ∷ 255 ∷ [])
-    ≡ 4 ∷ 4 ∷ 4 ∷ 0 ∷ 0 ∷ 0 ∷ []
+offer-each : map (λ n. offerOf (sendingAt n) (counting 128 128)) (counting 0 256)
+    ≡ map (λ n. record { answer = Blocked; host = sendingAt n }) (counting 0 16)
+    ++ map (λ n. record { answer = Done; host = record { block = counting 128 128; next = 0 } }) (counting 16 240)
 unfolding offerOf
-offer-refused = refl
+offer-each = refl
 
-offer-stays : offerOf (sendingAt 15) (counting 128 128) .host ≡ sendingAt 15
+offer-numbers : map (λ n. numberOf (offerOf (sendingAt n) (counting 128 128) .answer)) (15 ∷ 16 ∷ []) ≡ 4 ∷ 0 ∷ []
 unfolding offerOf
-offer-stays = refl
-
-offer-done : offerOf (sendingAt 16) (counting 128 128) .host ≡ record { block = counting 128 128; next = 0 }
-unfolding offerOf
-offer-done = refl
+offer-numbers = refl
 
 -- Push
 
-push-idle : (e : End) → pushOf (sendingAt 16) e ≡ record { what = Idle; host = sendingAt 16; end = e }
+push-idle : (e : End)
+    → map (λ n. pushOf (sendingAt n) e) (counting 16 240)
+    ≡ map (λ n. record { what = Idle; host = sendingAt n; end = e }) (counting 16 240)
 unfolding pushOf
 push-idle e = refl
 
-push-beyond : (e : End) → pushOf (sendingAt 255) e ≡ record { what = Idle; host = sendingAt 255; end = e }
-unfolding pushOf
-push-beyond e = refl
+-- the five writes of each number
+push-writes : (e : End)
+    → map (λ n. writtenOf (counting 0 128) n e) (counting 0 16)
+    ≡ map (λ n. thenWrite 2308 (0x8000 + 0x100 * n)
+    (thenWrite 2312 (8 * n + 6 + (8 * n + 7) * 256)
+    (thenWrite 2311 (8 * n + 4 + (8 * n + 5) * 256)
+    (thenWrite 2310 (8 * n + 2 + (8 * n + 3) * 256)
+    (writeOf e 2309 (8 * n + (8 * n + 1) * 256))))))
+    (counting 0 16)
+push-writes e = refl
+
+-- what the answer to them makes of each number
+push-next : (e : End)
+    → map (λ n. pushedBy (sendingAt n) (record { answer = Done; end = e })) (counting 0 16)
+    ≡ map (λ n. record { what = Pushes n; host = sendingAt (n + 1); end = e }) (counting 0 16)
+push-next e = refl
+
+push-stays : (e : End)
+    → map (λ n. pushedBy (sendingAt n) (record { answer = Blocked; end = e })) (counting 0 16)
+    ≡ map (λ n. record { what = Waits; host = sendingAt n; end = e }) (counting 0 16)
+push-stays e = refl
 
 -- the words of the numbers 0 to 15, the even byte of a register in its bits 7:0
 push-words : map (λ n. map (wordOf (counting 0 128) n) (0 ∷ 1 ∷ 2 ∷ 3 ∷ [])) (counting 0 16)
@@ -195,10 +212,35 @@ unfolding takeOf
 take-turns = refl
 
 -- in turn the message stands in its place, whichever it is, and all other bytes stay
-take-places : map (λ n. takeOf (takingAt n) n worked .host .block) (counting 0 15)
-    ≡ map (λ n. counting 0 (8 * n) ++ (worked ++ counting (8 * n + 8) (120 - 8 * n))) (counting 0 15)
-unfolding takeOf
-take-places = refl
+take-each : map (λ n. takeOf (takingAt n) n worked) (counting 0 15)
+    ≡ map (λ n. record {
+      what = Part n;
+      block = none;
+      host = record { block = counting 0 (8 * n) ++ (worked ++ counting (8 * n + 8) (120 - 8 * n)); turn = n + 1 };
+    })
+    (counting 0 15)
+unfolding takeOf none
+take-each = refl
+
+-- out of turn, behind the turn and before it
+take-out-each : map (λ t. map (λ n. takeOf (takingAt t) n worked) (counting (t + 1) 18 ++ (200 ∷ 255 ∷ []))) (counting 0 18)
+    ≡ map (λ t. map (λ n. record { what = Out n; block = none; host = record { block = none; turn = 0 } })
+    (counting (t + 1) 18 ++ (200 ∷ 255 ∷ []))) (counting 0 18)
+unfolding takeOf none
+take-out-each = refl
+
+take-out-before : map (λ t. map (λ n. takeOf (takingAt t) n worked) (counting 1 (t - 1))) (counting 2 30)
+    ≡ map (λ t. map (λ n. record { what = Out n; block = none; host = record { block = none; turn = 0 } })
+    (counting 1 (t - 1))) (counting 2 30)
+unfolding takeOf none
+take-out-before = refl
+
+-- a 0 starts, whatever number above 0 is in turn
+take-start-each : map (λ t. takeOf (takingAt t) 0 worked) (counting 1 255)
+    ≡ map (λ t. record { what = Part 0; block = none; host = record { block = worked ++ replicate 120 0; turn = 1 } })
+    (counting 1 255)
+unfolding takeOf none
+take-start-each = refl
 
 -- nothing is handed over but by 15 in turn
 take-handed : map (λ t. map (λ n. takeOf (takingAt t) n worked .block) (counting 0 15)) (counting 0 16)
@@ -271,3 +313,23 @@ module _ (e : End) where
       → pullOf (takingAt 3) e ≡ record { what = RefusedRead BadEnd; block = none; host = takingAt 3; end = status }
   unfolding pullOf none status
   pull-refused a = rw a
+
+-- whatever number is in turn
+pull-empty-each : (e : End)
+    → map (λ t. pulledBy (takingAt t) (record { answer = Done; value = 0x7FFF; end = e })) (counting 0 17)
+    ≡ map (λ t. record { what = Empty; block = none; host = takingAt t; end = e }) (counting 0 17)
+unfolding none odd
+pull-empty-each e = refl
+
+pull-refused-each : (e : End)
+    → map (λ t. pulledBy (takingAt t) (record { answer = BadEnd; value = 0xFFFF; end = e })) (counting 0 17)
+    ≡ map (λ t. record { what = RefusedRead BadEnd; block = none; host = takingAt t; end = e }) (counting 0 17)
+unfolding none
+pull-refused-each e = refl
+
+-- the number is bits 11:8 of the value
+pull-number-each : (e : End)
+    → map (λ n. pulledBy (takingAt n) (record { answer = Done; value = 0x8000 + 0x100 * n; end = e }) .what) (counting 0 16)
+    ≡ map (λ n. Took (Part n)) (counting 0 15) ++ (Took Whole ∷ [])
+unfolding takeOf odd
+pull-number-each e = refl

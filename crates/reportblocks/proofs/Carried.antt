@@ -67,7 +67,7 @@ all-length (b ∷ bs) =
     more : (x y : ℕ) → x ≡ 16 * y → 16 + x ≡ 16 * suc y
     more x y h = omega arith
 
-eight-append : (a b : List Message) → Eight a → Eight b → Eight (a ++ b)
+pub eight-append : (a b : List Message) → Eight a → Eight b → Eight (a ++ b)
 eight-append [] b h k = k
 eight-append (m ∷ a) b h k = (h .0, eight-append a b (h .1) k)
 

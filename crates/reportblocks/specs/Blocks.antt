@@ -121,7 +121,7 @@ message-count : length (messagesOfAll (one ∷ two ∷ [])) ≡ 32
 unfolding messagesOfAll
 message-count = refl
 
--- three messages of block two, block one whole, one of another number, block two whole, and its first part
+-- three messages of block two, block one whole, one of another number, block two whole, and its first fifteen
 
 abbrev mixed : List Message
 mixed =

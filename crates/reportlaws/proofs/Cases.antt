@@ -1,5 +1,5 @@
--- What a call gives, by the rows of specs/Rows.antt: what holds in each row holds of the result. Of the end only its
--- answers are used.
+-- What a call gives, by the rows of specs/Rows.antt: what holds in each row holds of the result. Of the end only what
+-- endlaws says by calls and answers is used.
 --   offer-case, push-case, take-case, pull-case
 --   Open e          a write to 3.2309 of the end e would be answered 0
 --   open-byte, open-after, open-control   such an end takes a write of bytes and is such after it, and takes the number

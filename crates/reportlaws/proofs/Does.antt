@@ -1,5 +1,5 @@
--- What each call does, for every host, end and message: see specs/Does.antt. The block of a host has 128 bytes, and a
--- message eight: Rust's types say so.
+-- What each call does, for every host, end and message: see specs/Does.antt. The block of a host has 128 bytes of eight
+-- bits, and a message eight: Rust's types say so.
 --   sending-fresh, offer-does, push-does
 --   taking-fresh, take-does, pull-does
 -- Assumes nothing.

@@ -23,6 +23,8 @@ unfolding runBy taking bytesOf puts gets offerOf pushOf takenOf pullOf
     odd xor bits number oddOnes plus times shift fed crc
     generator stream crcOf even evenSymbol oddSymbol symbols build crcRight
 cases = record {
+  fresh-hosts = (refl, refl);
+  asked = refl;
   not-offered = refl;
   offered = refl;
   accepted = refl;
@@ -40,6 +42,7 @@ cases = record {
   not-handed = refl;
   empty = refl;
   marked = refl;
+  marked-then = refl;
   back = refl;
   may-look = refl;
   may-read = refl;

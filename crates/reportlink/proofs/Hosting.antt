@@ -1,15 +1,15 @@
 -- A step of the sending host keeps what a reporter has in every run, and so does every call.
 --   does         of every call: what it does in registers, by the rule, and what is kept
---   ends-agree   the ends after the steps
+--   steps-agree  the ends and the hosts after the steps
 -- Assumes nothing.
 use Prim.Native.Nat.{ℕ, suc, _+_, _-_, _*_, _<_}
-use mathlib.Core.Bool.{Bool, true, false}
+use mathlib.Core.Bool.{Bool, true, false, _&&_}
 use mathlib.Core.List.{List, [], _∷_, _++_, map, append-assoc, append-nil}
 use mathlib.Core.Path.{_≡_, refl, sym, ap, subst, _∙_}
 use native.Mathlib.Omega.{arith}
 use lib.Dec.{eqb, ltb}
 use borrow.Author.Tests.{ltb-true, ltb-false, eqb-true, ne-eqb}
-use Rattle.laws.proofs.Bools.{cond-true, cond-false, either}
+use Rattle.laws.proofs.Bools.{cond-true, cond-false, either, and-yes, and-true}
 use Rattle.joined.specs.Joined.{also}
 use Rattle.end.specs.declared.End.{End}
 use Rattle.end.specs.declared.Next.{Next}
@@ -26,13 +26,13 @@ use Rattle.report.specs.declared.Push.{Push}
 use Rattle.report.specs.declared.Push.the-variants.{Idle}
 use Rattle.report.specs.Sending.{done, wordOf, writtenOf, refusal, underWay, pushedBy, pushOf}
 use Rattle.report.specs.Taking.{freshTaking, pullOf}
-use Rattle.reportblocks.specs.Blocks.{IsBlock, counting, messageOf, messagesOf, messagesOfAll, givenBy}
+use Rattle.reportblocks.specs.Blocks.{Eight, IsBlock, counting, messageOf, messagesOf, messagesOfAll, givenBy}
 use Rattle.reportblocks.specs.Blocks.{hostAfter}
 use Rattle.reportblocks.specs.Carried.{AllBlocks}
 use Rattle.reportlink.specs.Reporting.{Reporter, Call, offer, push, pull, other}
 use Rattle.reportlink.specs.Reporting.{partWrites, puts, pushing, message, pulling, isFirst}
 use Rattle.reportlink.specs.Reporting.{onSide}
-use Rattle.reportlink.specs.Demand.{still, EndsAgree}
+use Rattle.reportlink.specs.Demand.{still, StepsAgree, first}
 use Rattle.reportlink.proofs.Accesses.{calls, byRule}
 use Rattle.reportlink.proofs.Kept.{Keeps, keeps-side, Does, offers, others, pulls}
 use Rattle.reportlink.proofs.Pushing.{ok, chain, asCalls, puts-calls, puts-ruled, puts-end, puts-ok, puts-all}
@@ -120,6 +120,27 @@ module _ (s : Reporter) (k : Keeps s) (u : underWay (s .sending) ≡ true) where
           ∙ (ap (λ (l : List Message). acc ++ l) (cond-true _ _ u ∙ (cond-false _ _ z ∙ still-next b n below))
           ∙ sym (append-assoc acc (messageOf b n ∷ []) _))
 
+  -- and the block that was to come has come
+  asked-now : s .asked ≡ also (eqb n 0) b (s .offered) ++ first (record { block = b; next = n + 1 })
+  asked-now = go (eqb n 0) refl
+    where
+      none : first (record { block = b; next = n + 1 }) ≡ []
+      none = cond-false _ _ (last (ltb (n + 1) 16) (ne-eqb (n + 1) 0 (λ z. omega arith)))
+        where
+          last : (x : Bool) {y : Bool} → y ≡ false → (x && y) ≡ false
+          last true e = e
+          last false e = refl
+
+      go : (z : Bool) → eqb n 0 ≡ z → s .asked ≡ also z b (s .offered) ++ first (record { block = b; next = n + 1 })
+      go true z =
+          k .has .asked
+          ∙ (ap (λ (l : List (List ℕ)). s .offered ++ l) (cond-true _ _ (and-true _ _ u z))
+          ∙ (sym (append-nil _) ∙ ap (λ (l : List (List ℕ)). (s .offered ++ (b ∷ [])) ++ l) (sym none)))
+      go false z =
+          k .has .asked
+          ∙ ap (λ (l : List (List ℕ)). s .offered ++ l)
+          (cond-false _ _ (and-yes _ u ∙ z) ∙ sym none)
+
   blocks-now : AllBlocks (also (eqb n 0) b (s .offered))
   blocks-now =
       either AllBlocks (eqb n 0) _ _ (λ _. blocks-snoc (s .offered) b (k .blocks) (k .block)) (λ _. k .blocks)
@@ -142,6 +163,7 @@ module _ (s : Reporter) (k : Keeps s) (u : underWay (s .sending) ≡ true) where
     side = t;
     sending = p .host;
     taking = s .taking;
+    asked = s .asked;
     offered = also (isFirst (p .what)) b (s .offered);
     handed = s .handed;
   }
@@ -154,6 +176,7 @@ module _ (s : Reporter) (k : Keeps s) (u : underWay (s .sending) ≡ true) where
         side = to;
         sending = record { block = b; next = n + 1 };
         taking = s .taking;
+        asked = s .asked;
         offered = also (eqb n 0) b (s .offered);
         handed = s .handed;
       })
@@ -162,11 +185,13 @@ module _ (s : Reporter) (k : Keeps s) (u : underWay (s .sending) ≡ true) where
     block = k .block;
     written = puts-written (partWrites b n) (s .side) ∙ k .written;
     has = record {
+      asked = asked-now;
       accepted =
           offered-now
           ∙ ap (λ (l : List Message). l ++ still (record { block = b; next = n + 1 })) (sym accepted-now);
       taking = k .has .taking ∙ ap (hostAfter freshTaking) (sym (puts-taken (partWrites b n) (s .side)));
       handed = k .has .handed ∙ ap (givenBy freshTaking) (sym (puts-taken (partWrites b n) (s .side)));
+      eight = subst Eight (sym (puts-taken (partWrites b n) (s .side))) (k .has .eight);
     };
   }
     where
@@ -194,6 +219,7 @@ module _ (s : Reporter) (k : Keeps s) (u : underWay (s .sending) ≡ true) where
         side = to;
         sending = s .sending;
         taking = s .taking;
+        asked = s .asked;
         offered = also f b (s .offered);
         handed = s .handed;
       }))
@@ -225,6 +251,7 @@ still-pushes s k u = record {
         side = sym (cond-false (puts (partWrites (s .sending .block) (s .sending .next)) (s .side)) (s .side) u) i;
         sending = sym idle i .host;
         taking = s .taking;
+        asked = s .asked;
         offered = also (isFirst (sym idle i .what)) (s .sending .block) (s .offered);
         handed = s .handed;
       })
@@ -252,12 +279,18 @@ does (other c i) s k = others c i s k
 pushed-end : (h : SendingHost) (x : Next) → pushedBy h x .end ≡ x .end
 pushed-end h x = either (λ (p : Pushed). p .end ≡ x .end) (done (x .answer)) _ _ (λ _. refl) (λ _. refl)
 
-pub ends-agree : (s : Reporter) → EndsAgree s
+pub steps-agree : (s : Reporter) → StepsAgree s
 unfolding pushOf chain
-ends-agree s = record {
+steps-agree s = record {
+  offer-side = λ b k. refl;
+  offer-host = λ b k. refl;
   push-end = push-go (underWay h) refl;
+  push-host = refl;
   pull-end = pull-go (message (readOf e 2313)) refl;
+  pull-host = refl;
   other-side = λ c k. refl;
+  push-leaves = refl;
+  pull-leaves = refl;
 }
   where
     h : SendingHost

@@ -4,9 +4,11 @@
 --   Does c s     the call c as calls on registers, by the rule; what is kept after it
 --   keeps-reset, keeps-side   at the beginning; with a side whose host has the same lists
 --   offers, others, pulls     of these calls
+--   besides-*    which other calls there are: no fewer than these
 -- Assumes nothing.
-use Prim.Native.Nat.{ℕ, _+_, _-_}
+use Prim.Native.Nat.{ℕ, _+_, _-_, _<_}
 use mathlib.Core.Bool.{Bool, true, false, not, _&&_, _||_, true≢false, false≢true}
+use mathlib.Core.Logic.{_⊎_, ⊎-elim}
 use mathlib.Core.List.{List, [], _∷_, _++_, map, append-nil}
 use mathlib.Core.Path.{_≡_, refl, sym, ap, subst, _∙_}
 use native.Mathlib.Omega.{arith}
@@ -14,8 +16,9 @@ use lib.Dec.{eqb, leb}
 use lib.ListN.{length, length-set}
 use borrow.Author.Tests.{eqb-true, eqb-false, ne-eqb, leb-true, le-leb}
 use Rattle.laws.specs.Above.{above}
-use Rattle.laws.proofs.Bools.{cond-true, cond-false, either, and-both, and-true}
-use Rattle.joined.specs.Joined.{bit15, within}
+use Rattle.laws.proofs.Decide.{above-not}
+use Rattle.laws.proofs.Bools.{no-if, cond-true, cond-false, either, and-both, and-true, and-no}
+use Rattle.joined.specs.Joined.{also, bit15, within}
 use Rattle.end.specs.Message.{Message}
 use Rattle.end.specs.Registers.{readOf}
 use Rattle.link.specs.Link.{Side, Host, Access, read, write, health, present, ruledCall, stores}
@@ -26,14 +29,15 @@ use Rattle.report.specs.declared.Pulled.{Pulled}
 use Rattle.report.specs.declared.Taken.{Taken}
 use Rattle.report.specs.Sending.{done, underWay, offerOf}
 use Rattle.report.specs.Taking.{freshTaking, takeOf}
-use Rattle.reportblocks.specs.Blocks.{IsBlock, messagesOfAll, handedOver, givenBy}
+use Rattle.reportblocks.specs.Blocks.{Eight, IsBlock, messagesOfAll, handedOver, givenBy}
 use Rattle.reportblocks.specs.Blocks.{hostAfter}
 use Rattle.reportblocks.specs.Carried.{AllBlocks}
 use Rattle.reportblocks.proofs.Taken.{after-append, given-append}
+use Rattle.reportblocks.proofs.Carried.{eight-append}
 use Rattle.reportlink.specs.Reporting.{Reporter, resetReporter, besides, Call, offer, pull, other}
 use Rattle.reportlink.specs.Reporting.{gets, message, given, hosted}
 use Rattle.reportlink.specs.Reporting.{onSide}
-use Rattle.reportlink.specs.Demand.{still, Has}
+use Rattle.reportlink.specs.Demand.{still, first, Has}
 use Rattle.reportlink.proofs.Accesses.{calls, byRule}
 use Rattle.reportlink.proofs.Pulling.{five, gets-calls, brought, read-all, all-accepted, all-written}
 use Rattle.reportlink.proofs.Pulling.{one-host, one-ruled, all-ruled, pull-took, pull-none}
@@ -56,7 +60,7 @@ keeps-reset = record {
   blocks = tt;
   block = record { size = refl; bytes = refl };
   written = refl;
-  has = record { accepted = refl; taking = refl; handed = refl };
+  has = record { asked = refl; accepted = refl; taking = refl; handed = refl; eight = tt };
 }
 
 -- a side whose host has the same lists
@@ -69,9 +73,11 @@ keeps-side s t k a b c = record {
   block = k .block;
   written = c ∙ k .written;
   has = record {
+    asked = k .has .asked;
     accepted = k .has .accepted ∙ ap (λ (l : List Message). l ++ still (s .sending)) (sym a);
     taking = k .has .taking ∙ ap (hostAfter freshTaking) (sym b);
     handed = k .has .handed ∙ ap (givenBy freshTaking) (sym b);
+    eight = subst Eight (sym b) (k .has .eight);
   };
 }
 
@@ -85,7 +91,14 @@ unfolding offerOf
 offers b i s k =
     either
     (λ (o : Offered). Keeps
-    (record { side = s .side; sending = o .host; taking = s .taking; offered = s .offered; handed = s .handed }))
+    (record {
+      side = s .side;
+      sending = o .host;
+      taking = s .taking;
+      asked = also (done (o .answer)) b (s .asked);
+      offered = s .offered;
+      handed = s .handed;
+    }))
     (underWay (s .sending)) _ _
     (λ _. k)
     (λ f.
@@ -94,11 +107,17 @@ offers b i s k =
       block = i;
       written = k .written;
       has = record {
+        asked =
+            let none : first (s .sending) ≡ [] = cond-false _ _ (and-no _ f) in
+            let all : s .asked ≡ s .offered =
+            k .has .asked ∙ (ap (λ (l : List (List ℕ)). s .offered ++ l) none ∙ append-nil (s .offered)) in
+            ap (λ (l : List (List ℕ)). l ++ (b ∷ [])) all;
         accepted =
             k .has .accepted
             ∙ ap (λ (l : List Message). s .side .host .accepted ++ l) (cond-false _ _ f);
         taking = k .has .taking;
         handed = k .has .handed;
+        eight = k .has .eight;
       };
     })
 
@@ -217,6 +236,7 @@ module _ (s : Reporter) (k : Keeps s) where
         side = t;
         sending = s .sending;
         taking = p .host;
+        asked = s .asked;
         offered = s .offered;
         handed = s .handed ++ given (p .what) (p .block);
       }
@@ -235,10 +255,14 @@ module _ (s : Reporter) (k : Keeps s) where
               block = k .block;
               written = ap length (all-written (s .side)) ∙ k .written;
               has = record {
+                asked = k .has .asked;
                 accepted =
                     k .has .accepted ∙ ap (λ (l : List Message). l ++ still (s .sending)) (sym (all-accepted (s .side)));
                 taking = taken-host s k m ∙ ap (hostAfter freshTaking) (sym (read-all (s .side)));
                 handed = taken-given s k m ∙ ap (givenBy freshTaking) (sym (read-all (s .side)));
+                eight =
+                    subst Eight (sym (read-all (s .side)))
+                    (eight-append (s .side .host .taken) (m ∷ []) (k .has .eight) (refl, tt));
               };
             });
       }
@@ -254,8 +278,31 @@ module _ (s : Reporter) (k : Keeps s) where
               side = sym (cond-false (gets five (s .side)) (gets (2313 ∷ []) (s .side)) e) i;
               sending = s .sending;
               taking = sym (n .0) i;
+              asked = s .asked;
               offered = s .offered;
               handed = (sym (append-nil (s .handed)) ∙ ap (λ (x : List (List ℕ)). s .handed ++ x) (sym (n .1))) i;
             })
             (keeps-side s (gets (2313 ∷ []) (s .side)) k (o .1) (o .0) (ap length (o .2)));
       }
+
+-- What besides allows is no less than it says
+
+pub besides-read : (r : ℕ) → (r < 2314) ⊎ (2317 < r) → besides (read r) ≡ true
+besides-read r o = ap not (no-if (within 2314 2317 r) (λ t. outside-of (and-both (leb 2314 r) (leb r 2317) t)))
+  where
+    outside-of : (leb 2314 r ≡ true) × (leb r 2317 ≡ true) → ⊥
+    outside-of b =
+        let x = leb-true 2314 r (b .0) in
+        let y = leb-true r 2317 (b .1) in
+        ⊎-elim (λ l. above-not l x) (λ l. above-not l y) o
+
+pub besides-write : (r v : ℕ) (l : v < 65536) → ¬ (r ≡ 2308) ⊎ (bit15 v ≡ false) → besides (write r v l) ≡ true
+besides-write r v l =
+    ⊎-elim (λ n. ap (λ (t : Bool). not (t && bit15 v)) (ne-eqb r 2308 n)) (λ e. ap not (and-last (eqb r 2308) e))
+  where
+    and-last : (a : Bool) {b : Bool} → b ≡ false → (a && b) ≡ false
+    and-last true e = e
+    and-last false e = refl
+
+pub besides-health : (n : ℕ) → besides (health n) ≡ true
+besides-health n = refl

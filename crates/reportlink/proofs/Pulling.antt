@@ -1,8 +1,7 @@
 -- A step of the taking host, as reads of crate link.
---   asCalls          the reads, as calls; gets-calls: a side after them
---   read-one         what 3.2313 alone leaves of the host
---   read-all         what the five reads bring: one message taken, the one that the step hands to take
---   reads-ruled      they are by the rule
+--   five             the registers of a message; gets-calls: a side after reads is a side after calls
+--   brought          the message that five reads bring; read-all: it is the one message that is taken
+--   all-*, one-*     what five reads, and 3.2313 alone, leave of the host and of the end; they are by the rule
 --   pull-took, pull-none   the step where 3.2313 says that a message is there, and where it does not
 -- Assumes nothing.
 use Prim.Native.Nat.{ℕ, _+_, _/_, _%_}

@@ -1,10 +1,11 @@
 -- Blocks over every run of two reporting hosts.
 --   reported     they are handed over as the first so many offered, each once and whole, at most two fewer
---   stated       what both hosts have
+--   stated       what both hosts have of what was asked, accepted and taken
 --   by-blocks    the same for hosts of any kind whose messages accepted are those of blocks
---   asked-back, asked-forth   no more is asked
+--   asked-*      no more is asked
 -- Assumes nothing.
 use Prim.Native.Nat.{ℕ, zero, suc, _-_, _≤_}
+use mathlib.Core.Bool.{true}
 use mathlib.Core.List.{List, [], _∷_}
 use mathlib.Core.Path.{_≡_, refl, sym, ap, subst, _∙_}
 use native.Mathlib.Omega.{arith}
@@ -20,9 +21,12 @@ use Rattle.link.specs.Demand.{mostHeld}
 use Rattle.link.proofs.PartOne.{nothing-lost}
 use Rattle.report.specs.declared.SendingHost.{SendingHost}
 use Rattle.report.specs.Sending.{underWay}
-use Rattle.reportblocks.specs.Blocks.{counting, messageOf}
-use Rattle.reportblocks.specs.Carried.{mostMissing}
+use Rattle.report.specs.declared.TakingHost.{TakingHost}
+use Rattle.report.specs.Taking.{freshTaking}
+use Rattle.reportblocks.specs.Blocks.{counting, messageOf, givenBy}
+use Rattle.reportblocks.specs.Carried.{Stands, AllBlocks, Sends, mostMissing}
 use Rattle.reportblocks.proofs.Carried.{carried}
+use Rattle.reportblocks.proofs.Taken.{part-stated}
 use Rattle.reportlink.specs.Reporting.{Reporter, World, resetWorld, Event, step, run, runBy, hosted}
 use Rattle.reportlink.specs.Demand.{Reported, still, Has, Stated, ByBlocks}
 use Rattle.reportlink.proofs.Accesses.{Follows, follow-none, follow-slot, follow-calls}
@@ -46,6 +50,7 @@ module _ (D E : ℕ) where
         side = taking l (link.sends (r .side));
         sending = r .sending;
         taking = r .taking;
+        asked = r .asked;
         offered = r .offered;
         handed = r .handed;
       })
@@ -129,12 +134,29 @@ reported d D E es w e = subst (λ (x : World). InTurn mostMissing (near d x .off
         both (run D E es resetWorld .b) (run D E es resetWorld .a) (r .b) (r .a)
         (nothing-lost bToA D E (r .follows .events) (r .follows .ruled bToA) _ (sym (r .follows .same)))
 
+-- the part block
+stands : (r : Reporter) → Has r → Stands (r .taking) (r .side .host .taken)
+stands r h =
+    subst (λ (t : TakingHost). Stands t (r .side .host .taken)) (sym (h .taking))
+    (part-stated (r .side .host .taken) (h .eight))
+
 pub stated : Stated
-stated d D E es w e = subst (λ (x : World). Has (near d x) × Has (far d x)) (sym e) (go d)
+stated d D E es w e =
+    subst (λ (x : World). (Has (near d x) × Has (far d x)) × Stands (far d x .taking) (far d x .side .host .taken)) (sym e)
+    (go d)
   where
-    go : (d : Direction) → Has (near d (run D E es resetWorld)) × Has (far d (run D E es resetWorld))
-    go aToB = (reached D E es .a .has, reached D E es .b .has)
-    go bToA = (reached D E es .b .has, reached D E es .a .has)
+    a : Has (run D E es resetWorld .a)
+    a = reached D E es .a .has
+
+    b : Has (run D E es resetWorld .b)
+    b = reached D E es .b .has
+
+    x : World
+    x = run D E es resetWorld
+
+    go : (d : Direction) → (Has (near d x) × Has (far d x)) × Stands (far d x .taking) (far d x .side .host .taken)
+    go aToB = ((a, b), stands (x .b) b)
+    go bToA = ((b, a), stands (x .a) a)
 
 pub by-blocks : ByBlocks
 by-blocks offered bs d D E es h w e s = carried offered _ _ bs s (nothing-lost d D E es h w e)
@@ -148,3 +170,9 @@ asked-back r D E es = r bToA D E es (run D E es resetWorld) refl
 asked-forth : Reported → (D E : ℕ) (es : List Event)
     → InTurn mostMissing (run D E es resetWorld .a .offered) (run D E es resetWorld .b .handed)
 asked-forth r D E es = r aToB D E es (run D E es resetWorld) refl
+
+asked-blocks : ByBlocks → (offered : List (List ℕ)) → AllBlocks offered → (d : Direction) (D E : ℕ) (es : List link.Event)
+    → link.ruled d D E es link.resetWorld ≡ true
+    → Sends offered (near d (link.run D E es link.resetWorld) .host .accepted)
+    → InTurn mostMissing offered (givenBy freshTaking (far d (link.run D E es link.resetWorld) .host .taken))
+asked-blocks b offered bs d D E es h s = b offered bs d D E es h (link.run D E es link.resetWorld) refl s

@@ -1,6 +1,6 @@
 -- Short runs of two reporting hosts, which proofs/Computed.antt computes with the real ends, frames and CRC. Block one,
 -- of the bytes 0 to 127, goes from a to b; delays are 0.
---   begun            a's host has offered it, and made one step; twice: and another one at once
+--   begun            a's host has offered it, and made one step
 --   later n          after that and n slots
 --   pulled n         b's host has made a step then
 --   small, pings     values in their ranges; a write that sets PingTx alone is no message
@@ -16,6 +16,7 @@ use Rattle.crc.specs.Bits.{odd}
 use Rattle.joined.specs.Joined.{slot, atA, atB}
 use Rattle.end.specs.Registers.{readOf}
 use Rattle.link.specs.Link.{read, write, health, present, sound, mark}
+use Rattle.report.specs.Sending.{freshSending}
 use Rattle.report.specs.Taking.{freshTaking}
 use Rattle.reportblocks.specs.Blocks.{counting, messageOf, messagesOf, one, one-is}
 use Rattle.reportlink.specs.Reporting.{World, resetWorld, besides, offer, push, pull, other, Event, run}
@@ -42,6 +43,8 @@ pings = refl
 
 pub record Cases : Type 0 where
   -- a block counts as offered when its number 0 is accepted
+  pub fresh-hosts : (resetWorld .a .sending ≡ freshSending) × (resetWorld .b .sending ≡ freshSending)
+  pub asked : run 0 0 (atA (offer one one-is) ∷ []) resetWorld .a .asked ≡ one ∷ []
   pub not-offered : run 0 0 (atA (offer one one-is) ∷ []) resetWorld .a .offered ≡ []
   pub offered : begun .a .offered ≡ one ∷ []
   pub accepted : begun .a .side .host .accepted ≡ messageOf one 0 ∷ []
@@ -65,6 +68,9 @@ pub record Cases : Type 0 where
   -- where a symbol is marked, the message comes with the next frame
   pub marked :
       run 0 0 (slot sound (mark 512 (small .2) (small .3)) ∷ (quiet 11 ++ (atB pull ∷ []))) begun .b .taking ≡ freshTaking
+  pub marked-then :
+      run 0 0 (slot sound (mark 512 (small .2) (small .3)) ∷ (quiet 23 ++ (atB pull ∷ []))) begun .b .taking
+      ≡ record { block = counting 0 8 ++ replicate 120 0; turn = 1 }
   -- the other way round too, and both at once
   pub back :
       run 0 0 (atB (offer one one-is) ∷ atB push ∷ (quiet 12 ++ (atA pull ∷ atB pull ∷ []))) begun .a .taking

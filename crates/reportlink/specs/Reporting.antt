@@ -1,5 +1,6 @@
 -- Two ends joined, each with a reporting host: request #110 over the runs of crate link.
---   Reporter       a side of the link, with its sending and its taking host, the blocks offered and those handed over
+--   Reporter       a side of the link, with its sending and its taking host, and three lists of blocks: what its host
+--                  asked to be sent, what counts as offered, and what was handed over to it
 --   World          two of them; resetReporter, resetWorld: before anything is called or sent
 --   Call           what a reporting host does between slots: it offers a block, makes a step of its sending or of its
 --                  taking host, or makes any other call that besides allows
@@ -39,6 +40,9 @@ pub record Reporter : Type 0 where
   pub side : Side
   pub sending : SendingHost
   pub taking : TakingHost
+  -- the blocks that the host called offer with and was answered 0
+  pub asked : List (List ℕ)
+  -- those whose number 0 was accepted
   pub offered : List (List ℕ)
   pub handed : List (List ℕ)
 
@@ -46,7 +50,14 @@ abbrev pub World : Type 0
 World = Pair Reporter
 
 abbrev pub resetReporter : Reporter
-resetReporter = record { side = resetSide; sending = freshSending; taking = freshTaking; offered = []; handed = [] }
+resetReporter = record {
+  side = resetSide;
+  sending = freshSending;
+  taking = freshTaking;
+  asked = [];
+  offered = [];
+  handed = [];
+}
 
 abbrev pub resetWorld : World
 resetWorld = record { a = resetReporter; b = resetReporter }
@@ -108,6 +119,7 @@ hosted (offer b k) s = record {
   side = s .side;
   sending = offerOf (s .sending) b .host;
   taking = s .taking;
+  asked = also (done (offerOf (s .sending) b .answer)) b (s .asked);
   offered = s .offered;
   handed = s .handed;
 }
@@ -115,6 +127,7 @@ hosted push s = record {
   side = pushing (s .sending) (s .side);
   sending = pushOf (s .sending) (s .side .end) .host;
   taking = s .taking;
+  asked = s .asked;
   offered = also (isFirst (pushOf (s .sending) (s .side .end) .what)) (s .sending .block) (s .offered);
   handed = s .handed;
 }
@@ -122,6 +135,7 @@ hosted pull s = record {
   side = pulling (s .side);
   sending = s .sending;
   taking = pullOf (s .taking) (s .side .end) .host;
+  asked = s .asked;
   offered = s .offered;
   handed = s .handed ++ given (pullOf (s .taking) (s .side .end) .what) (pullOf (s .taking) (s .side .end) .block);
 }
@@ -129,6 +143,7 @@ hosted (other c k) s = record {
   side = called c (s .side);
   sending = s .sending;
   taking = s .taking;
+  asked = s .asked;
   offered = s .offered;
   handed = s .handed;
 }
@@ -140,6 +155,7 @@ onSide f s = record {
   side = f (s .side);
   sending = s .sending;
   taking = s .taking;
+  asked = s .asked;
   offered = s .offered;
   handed = s .handed;
 }

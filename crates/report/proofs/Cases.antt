@@ -249,15 +249,15 @@ unfolding takeOf
 take-handed = refl
 
 -- no number above 15 is in turn, whatever the turn
-take-beyond : map (λ n. takeOf (takingAt n) n worked) (16 ∷ 255 ∷ [])
-    ≡ map (λ n. record { what = Out n; block = none; host = record { block = none; turn = 0 } }) (16 ∷ 255 ∷ [])
+take-beyond : map (λ n. takeOf (takingAt n) n worked) (counting 16 240)
+    ≡ map (λ n. record { what = Out n; block = none; host = record { block = none; turn = 0 } }) (counting 16 240)
 unfolding takeOf none
 take-beyond = refl
 
-take-start-beyond : takeOf (takingAt 16) 0 worked
-    ≡ record { what = Part 0; block = none; host = record { block = worked ++ replicate 120 0; turn = 1 } }
+take-out-beyond : map (λ n. takeOf (takingAt 5) n worked) (counting 16 240)
+    ≡ map (λ n. record { what = Out n; block = none; host = record { block = none; turn = 0 } }) (counting 16 240)
 unfolding takeOf none
-take-start-beyond = refl
+take-out-beyond = refl
 
 -- Pull
 

@@ -83,9 +83,6 @@ keeps-side s t k a b c = record {
 
 -- Offer
 
-still-fresh : (b : List ℕ) → still (record { block = b; next = 0 }) ≡ []
-still-fresh b = refl
-
 pub offers : (b : List ℕ) (i : IsBlock b) (s : Reporter) → Keeps s → Keeps (hosted (offer b i) s)
 unfolding offerOf
 offers b i s k =

@@ -1,7 +1,7 @@
 -- Short runs of two reporting hosts, which proofs/Computed.antt computes with the real ends, frames and CRC. Block one,
 -- of the bytes 0 to 127, goes from a to b; delays are 0.
 --   begun            a's host has offered it, and made one step
---   later n          after that and n slots
+--   quiet n, later n   n slots; after that and n slots
 --   pulled n         b's host has made a step then
 --   small, pings     values in their ranges; a write that sets PingTx alone is no message
 --   Cases            what is true of these runs
@@ -42,8 +42,9 @@ unfolding odd
 pings = refl
 
 pub record Cases : Type 0 where
-  -- a block counts as offered when its number 0 is accepted
+  -- both hosts begin fresh
   pub fresh-hosts : (resetWorld .a .sending ≡ freshSending) × (resetWorld .b .sending ≡ freshSending)
+  -- a block counts as offered when its number 0 is accepted
   pub asked : run 0 0 (atA (offer one one-is) ∷ []) resetWorld .a .asked ≡ one ∷ []
   pub not-offered : run 0 0 (atA (offer one one-is) ∷ []) resetWorld .a .offered ≡ []
   pub offered : begun .a .offered ≡ one ∷ []

@@ -1,6 +1,6 @@
 -- Long runs of two ends joined, which proofs/Computed.antt computes with the real ends, frames and CRC. Delays are 0
 -- and nothing is marked. Blocks one and two have the bytes 0 to 127 and 128 to 255.
---   cycle          a's host pushes, 24 slots, b's host pulls: so long a message takes, its acknowledgement too
+--   cycle          a's host pushes, 24 slots pass, b's host pulls: a message and its acknowledgement take so long
 --   crowding, crowded   fourteen parts of block one are taken, number 14 is in b's register, number 15 on its way, and
 --                  number 0 of block two is pending; later: it goes on with pulls
 --   TwoFewer       two blocks are offered, and none is handed over; the first one is, once its last parts are taken
@@ -15,22 +15,21 @@ use mathlib.Core.Bool.{true}
 use mathlib.Core.List.{List, [], _∷_, _++_}
 use mathlib.Core.Path.{_≡_}
 use native.Mathlib.Omega.{arith}
-use lib.ListN.{take, drop, replicate}
-use Rattle.joined.specs.Joined.{Direction, slot, atA, atB}
-use Rattle.link.specs.Link.{read, write, sound}
+use lib.ListN.{take, drop}
+use Rattle.joined.specs.Joined.{Direction, atA, atB}
+use Rattle.link.specs.Link.{read, write}
 use Rattle.link.specs.Link as link
+use Rattle.link.specs.Tight.{quiet as quietly}
 use Rattle.report.specs.Sending.{wordOf}
 use Rattle.report.specs.Taking.{freshTaking}
 use Rattle.reportblocks.specs.Blocks.{IsBlock, givenBy, one, one-is, two, two-is}
 use Rattle.reportblocks.specs.Carried.{mostMissing}
 use Rattle.reportlink.specs.Reporting.{World, resetWorld, offer, push, pull, Event, run}
 use Rattle.reportlink.specs.Demand.{ReportedIn}
+use Rattle.reportlink.specs.Cases.{quiet}
 use Rattle.reportlink.proofs.Pushing.{word-small}
 
 -- Two blocks missing
-
-abbrev pub quiet : ℕ → List Event
-quiet n = replicate n (slot sound sound)
 
 abbrev pub cycle : List Event
 cycle = atA push ∷ (quiet 24 ++ (atB pull ∷ []))
@@ -68,7 +67,7 @@ writes b i n h =
     ∷ atA (write 2311 (wordOf b n 2) (word-small b i n h 2))
     ∷ atA (write 2312 (wordOf b n 3) (word-small b i n h 3))
     ∷ atA (write 2308 (32768 + n * 256) (omega arith))
-    ∷ (replicate 24 (slot sound sound)
+    ∷ (quietly 24
     ++ (atB (read 2313) ∷ atB (read 2314) ∷ atB (read 2315) ∷ atB (read 2316) ∷ atB (read 2317) ∷ []))
 
 -- the numbers from n on, so many of them

@@ -1,9 +1,11 @@
 // Document 01, "Answer numbers", answer 10 of request #101, 11 of #104 and 12 of #111. An answer is an enum without data;
 // its number is what the table says.
+#![tactic(auto)]
+
 ghost use Rattle.std.specs.Prelude.{◌≡◌};
 ghost use Rattle.answer.specs.Number.{number_of};
 
-#[derive(Drop)]
+#[derive(Clone, Copy)]
 pub enum Answer {
     Done,
     BadEnd,

@@ -1,5 +1,7 @@
 // The bench: a console on two ends with their reporting hosts and the link between them, on the frame check and on the
 // finder. It reads commands, one a line, and writes one line for each.
+#![tactic(auto)]
+
 mod serve;
 mod session;
 mod state;

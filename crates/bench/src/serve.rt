@@ -8,7 +8,7 @@ use benchlink::SENT;
 use console::Console;
 
 // The bench and the console after a line, and whether all is over.
-#[derive(Drop)]
+#[derive(Clone, Copy)]
 pub struct After {
     pub bench: Bench,
     pub console: Console,

@@ -14,7 +14,7 @@ use text::print;
 use text::words::first_word;
 
 // The bench after a line, and where the output goes on.
-#[derive(Drop)]
+#[derive(Clone, Copy)]
 pub struct Answered {
     pub bench: Bench,
     pub at: usize,

@@ -5,7 +5,7 @@ use consolecommands::Side;
 use end::End;
 
 // The link, and the reporting hosts of its ends.
-#[derive(Drop)]
+#[derive(Clone, Copy)]
 pub struct Bench {
     pub link: Link,
     pub hosts: Hosts,

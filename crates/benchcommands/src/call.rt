@@ -8,7 +8,7 @@ use text::numbers::{DECIMAL, HEX, MOST, Number, last_number};
 use text::words::{index_of, is_last, next};
 
 // What was read whole, or what was wrong with it. What set writes is a field's place, the element, and the value.
-#[derive(Drop)]
+#[derive(Clone, Copy)]
 pub enum Asked {
     Wrong(Fault),
     Call(Call),
@@ -18,7 +18,7 @@ pub enum Asked {
 }
 
 // A call on an end.
-#[derive(Drop)]
+#[derive(Clone, Copy)]
 pub enum Call {
     Reset,
     Send,
@@ -30,7 +30,7 @@ pub enum Call {
 }
 
 // A call on the reporting host of an end. The block that is offered stands behind its word.
-#[derive(Drop)]
+#[derive(Clone, Copy)]
 pub enum HostCall {
     Offer,
     Push,

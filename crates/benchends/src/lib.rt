@@ -1,4 +1,6 @@
 // The calls of document 01 on an end, with what they print.
+#![tactic(auto)]
+
 ghost use Rattle.std.specs.Prelude.{◌≤◌, ◌+◌, length};
 ghost use Rattle.console.specs.Ready.{Room};
 
@@ -8,7 +10,7 @@ use frame::reason::Reason;
 use text::print;
 
 // The end after a call, and where the output goes on.
-#[derive(Drop)]
+#[derive(Clone, Copy)]
 pub struct Called {
     pub end: End,
     pub at: usize,

@@ -8,7 +8,7 @@ use end::{End, Outbox, Sender};
 use receiver::{Collector, Counts, Heard, Inbox};
 
 // An element of a field.
-#[derive(Drop)]
+#[derive(Clone, Copy)]
 struct Place {
     field: usize,
     i: usize,

@@ -1,4 +1,6 @@
 // Two ends and the two lines between them.
+#![tactic(auto)]
+
 ghost use Rattle.std.specs.Prelude.{◌<◌, ◌≤◌};
 
 use consolecommands::line::{Arrival, Line};
@@ -11,7 +13,7 @@ const KEPT: usize = 8192;
 pub const SENT: usize = 16384;
 
 // The ends, the lines by where they lead, and how many slots there were since the link was made.
-#[derive(Drop)]
+#[derive(Clone, Copy)]
 pub struct Link {
     pub a: End,
     pub b: End,

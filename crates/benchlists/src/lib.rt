@@ -1,4 +1,6 @@
 // The commands on lists: check, find, crc and build.
+#![tactic(auto)]
+
 ghost use Rattle.std.specs.Prelude.{◌≡◌, ◌≤◌, ◌+◌, length};
 ghost use Rattle.console.specs.Ready.{Room};
 

@@ -1,4 +1,6 @@
 // The reporting hosts of the bench, request #110: one beside each end, and what is asked of it, done and printed.
+#![tactic(auto)]
+
 mod lines;
 
 ghost use Rattle.std.specs.Prelude.{◌++◌, ◌≡◌, ◌≤◌, length, take};
@@ -21,21 +23,21 @@ use text::words::past_word;
 const BYTE: u64 = 255;
 
 // The reporting host of an end, its sending side and its taking side.
-#[derive(Drop)]
+#[derive(Clone, Copy)]
 pub struct Host {
     pub sending: SendingHost,
     pub taking: TakingHost,
 }
 
 // The reporting hosts of both ends. They stand beside the link, not in it: a slot leaves them alone.
-#[derive(Drop)]
+#[derive(Clone, Copy)]
 pub struct Hosts {
     pub a: Host,
     pub b: Host,
 }
 
 // An end and its reporting host after a line, and where the output goes on.
-#[derive(Drop)]
+#[derive(Clone, Copy)]
 pub struct Called {
     pub end: End,
     pub host: Host,

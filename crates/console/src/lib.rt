@@ -1,6 +1,8 @@
 // The input and the output of a console: standard input line after line, and the answers, gathered and handed on before
 // the program waits for more. A program's loop asks for the next turn, answers its line, and says how far the output
 // goes then.
+#![tactic(auto)]
+
 ghost use Rattle.std.specs.Prelude.{◌≡◌, ◌≤◌, ◌+◌, length};
 ghost use Rattle.console.specs.Ready.{turn_room, Asked, Bare, Ready};
 ghost use Rattle.text.specs.Lines.{Holds};
@@ -20,7 +22,7 @@ pub const GATHERED: usize = 65536;
 const ROOM: usize = 4128;
 
 // What is held of the input, how far the output goes, and whether the input has ended.
-#[derive(Drop)]
+#[derive(Clone, Copy)]
 pub struct Console {
     pub held: Held,
     pub at: usize,
@@ -29,7 +31,7 @@ pub struct Console {
 
 // A turn: where its line stands, and the console with room for the answer. Where no line was whole it is empty, which
 // asks for nothing. When all is over the input has ended, every line was handed out and every answer handed on.
-#[derive(Drop)]
+#[derive(Clone, Copy)]
 pub struct Turn {
     pub console: Console,
     pub start: usize,

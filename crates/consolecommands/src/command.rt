@@ -10,7 +10,7 @@ use text::words::{index_of, is_last, next};
 
 // A command that was read whole, or what was wrong with it. What is asked of an end itself stands behind the end's
 // name, and is for its own console to read.
-#[derive(Drop)]
+#[derive(Clone, Copy)]
 pub enum Command {
     Wrong(Fault),
     Link(u16, u16),

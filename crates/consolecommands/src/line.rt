@@ -3,14 +3,14 @@ ghost use Rattle.std.specs.Prelude.{◌≡◌};
 ghost use Rattle.consolecommands.specs.Line.{after_of, arrival_of};
 
 // A line: what arrives was sent `delay` slots ago, and the next `marks` that arrive are marked.
-#[derive(Drop)]
+#[derive(Clone, Copy)]
 pub struct Line {
     pub delay: u64,
     pub marks: u16,
 }
 
 // What arrives in a slot: nothing yet, or what was sent in that earlier slot, sound or marked.
-#[derive(Drop)]
+#[derive(Clone, Copy)]
 pub enum Arrival {
     Nothing,
     Sound(u64),

@@ -6,14 +6,14 @@ use text::numbers::{DECIMAL, HEX, MOST, Number, last_number, next_number};
 use text::words::past_word;
 
 // Two numbers that were read, or what was wrong with one.
-#[derive(Drop)]
+#[derive(Clone, Copy)]
 pub enum Two {
     Values(u16, u16),
     Wrong(Fault),
 }
 
 // The element of a field and the value that set writes to it, or what was wrong with them.
-#[derive(Drop)]
+#[derive(Clone, Copy)]
 pub enum Element {
     At(usize, u16),
     Wrong(Fault),

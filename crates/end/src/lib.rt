@@ -3,6 +3,8 @@
 //
 // In these files conditions are joined by `&` and `|`, not `&&` and `||`: no part of one can fail, and with no branch
 // in it a condition is one equation to its definition.
+#![tactic(auto)]
+
 mod good;
 mod reading;
 mod registers;
@@ -15,7 +17,7 @@ use frame::reason::Reason;
 use receiver::{Collector, Counts, Heard, Inbox};
 
 // The sending side: the twelve symbols being sent and where the next slot is.
-#[derive(Drop)]
+#[derive(Clone, Copy)]
 pub struct Sender {
     pub symbols: [u16; 12],
     pub position: u8,
@@ -28,7 +30,7 @@ pub struct Sender {
 }
 
 // The transmit registers, 3.2308 to 3.2312.
-#[derive(Drop)]
+#[derive(Clone, Copy)]
 pub struct Outbox {
     pub pending: bool,
     // the register toggle
@@ -43,7 +45,7 @@ pub struct Outbox {
 }
 
 // The whole end: what it sends with, and the receiving side.
-#[derive(Drop)]
+#[derive(Clone, Copy)]
 pub struct End {
     pub sender: Sender,
     pub outbox: Outbox,
@@ -56,7 +58,7 @@ pub struct End {
 }
 
 // What send gives: the symbol of this slot.
-#[derive(Drop)]
+#[derive(Clone, Copy)]
 pub struct Sent {
     pub answer: Answer,
     pub symbol: u16,
@@ -64,7 +66,7 @@ pub struct Sent {
 }
 
 // What read gives: the register's value.
-#[derive(Drop)]
+#[derive(Clone, Copy)]
 pub struct Read {
     pub answer: Answer,
     pub value: u16,
@@ -72,7 +74,7 @@ pub struct Read {
 }
 
 // What take gives: what became of the collection.
-#[derive(Drop)]
+#[derive(Clone, Copy)]
 pub struct Taken {
     pub answer: Answer,
     pub reason: Reason,
@@ -80,7 +82,7 @@ pub struct Taken {
 }
 
 // What write and set health give.
-#[derive(Drop)]
+#[derive(Clone, Copy)]
 pub struct Next {
     pub answer: Answer,
     pub end: End,

@@ -2,7 +2,7 @@
 ghost use Rattle.end.specs.Names.{Names};
 
 // 3.2308; 3.2309 to 3.2312, counted from 0; 3.2313; 3.2314 to 3.2317, counted from 0; and every number outside.
-#[derive(Drop)]
+#[derive(Clone, Copy)]
 pub enum Register {
     Control,
     Message(usize),

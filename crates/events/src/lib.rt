@@ -1,6 +1,8 @@
 // Request #111: what a report of a capture tells, a line for each event, and its last line with the totals. Each call
 // puts its line into a buffer that the caller lends, from a place on, and says where the next one goes on; all else in
 // the buffer stays.
+#![tactic(auto)]
+
 ghost use Rattle.std.specs.Prelude.{◌≡◌, ◌≤◌, ◌<◌, ◌+◌, length};
 ghost use Rattle.text.specs.Printed.{decimal_of, Put};
 ghost use Rattle.events.specs.Event.{Event};
@@ -9,7 +11,7 @@ ghost use Rattle.events.specs.Lines.{data_of, datum_of, count_of, told_of, line_
 use text::put;
 
 // How many lines of each kind a report has.
-#[derive(Drop)]
+#[derive(Clone, Copy)]
 pub struct Totals {
     pub frames: u64,
     pub crc: u64,

@@ -3,6 +3,8 @@
 //
 // In these files conditions are joined by `&` and `|`, not `&&` and `||`: no part of one can fail, and with no branch
 // in it a condition is one equation to its definition.
+#![tactic(auto)]
+
 mod good;
 mod reading;
 mod sending;
@@ -17,7 +19,7 @@ pub const LARGEST: u16 = 4095;
 
 // What the host writes, words 0 to 8: a message of 140 bits, the request to send it, and what was last heard of the
 // partner's toggles. (MSGT, bit 12 of word 0, is the sent block's.)
-#[derive(Drop)]
+#[derive(Clone, Copy)]
 pub struct Transmit {
     pub txreq: bool,
     pub phyt: bool,
@@ -28,7 +30,7 @@ pub struct Transmit {
 
 // What goes over the fibre: the message being sent, its toggle, and two toggles for the messages of the other way, the
 // last one received and the last one read by the host.
-#[derive(Drop)]
+#[derive(Clone, Copy)]
 pub struct Block {
     pub msgt: bool,
     pub phyt: bool,
@@ -38,7 +40,7 @@ pub struct Block {
 }
 
 // What the host reads, words 9 to 17: the message received last, and whether it has yet to be read.
-#[derive(Drop)]
+#[derive(Clone, Copy)]
 pub struct Receive {
     pub rxval: bool,
     pub toggle: bool,
@@ -47,7 +49,7 @@ pub struct Receive {
 }
 
 // The whole end. It sends the same block again and again, until a request brings the next message into it.
-#[derive(Drop)]
+#[derive(Clone, Copy)]
 pub struct End {
     pub transmit: Transmit,
     pub sent: Block,
@@ -55,7 +57,7 @@ pub struct End {
 }
 
 // What send gives: the block.
-#[derive(Drop)]
+#[derive(Clone, Copy)]
 pub struct Sent {
     pub answer: Answer,
     pub block: Block,
@@ -63,7 +65,7 @@ pub struct Sent {
 }
 
 // What read gives: the word's value.
-#[derive(Drop)]
+#[derive(Clone, Copy)]
 pub struct Read {
     pub answer: Answer,
     pub value: u16,
@@ -71,7 +73,7 @@ pub struct Read {
 }
 
 // What take and write give.
-#[derive(Drop)]
+#[derive(Clone, Copy)]
 pub struct Next {
     pub answer: Answer,
     pub end: End,

@@ -2,7 +2,7 @@
 ghost use Rattle.fibre.specs.Names.{Names};
 
 // Word 0; 1 to 8, counted from 0; 9; 10 to 17, counted from 0; and every number outside.
-#[derive(Drop)]
+#[derive(Clone, Copy)]
 pub enum Word {
     Control,
     Message(usize),

@@ -1,5 +1,7 @@
 // The bench of the gigabit fibre channel: a console on two ends and the lines between them. It reads commands, one a
 // line, and writes one line for each.
+#![tactic(auto)]
+
 mod serve;
 mod session;
 

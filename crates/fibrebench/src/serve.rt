@@ -7,7 +7,7 @@ use console::Console;
 use fibrelines::{LINE, Link};
 
 // The link and the console after a line, and whether all is over.
-#[derive(Drop)]
+#[derive(Clone, Copy)]
 pub struct After {
     pub link: Link,
     pub console: Console,

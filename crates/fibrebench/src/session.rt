@@ -9,7 +9,7 @@ use text::print;
 use text::words::first_word;
 
 // The link after a line, and where the output goes on.
-#[derive(Drop)]
+#[derive(Clone, Copy)]
 pub struct Answered {
     pub link: Link,
     pub at: usize,

@@ -8,7 +8,7 @@ use text::numbers::{DECIMAL, HEX, MOST, Number, last_number};
 use text::words::{is_last, next};
 
 // What was read whole, or what was wrong with it. What set writes is a field's place, the element, and the value.
-#[derive(Drop)]
+#[derive(Clone, Copy)]
 pub enum Call {
     Wrong(Fault),
     Reset,

@@ -1,4 +1,6 @@
 // What is asked of an end of the gigabit fibre channel, done and printed.
+#![tactic(auto)]
+
 ghost use Rattle.std.specs.Prelude.{◌≤◌, ◌+◌, length};
 ghost use Rattle.console.specs.Ready.{Room};
 
@@ -15,7 +17,7 @@ use text::words::{index_of, next};
 use text::{lists, print};
 
 // The end after a line, and where the output goes on.
-#[derive(Drop)]
+#[derive(Clone, Copy)]
 pub struct Called {
     pub end: End,
     pub at: usize,

@@ -1,5 +1,7 @@
 // Blocks and ends of the gigabit fibre channel as numbers: what a line keeps of a block, and the fields of an end, as
 // dump prints them and set writes them.
+#![tactic(auto)]
+
 pub mod block;
 pub mod fields;
 

@@ -1,1 +1,2 @@
 // Specs and proofs only: what is true of every fibre end.
+#![tactic(auto)]

@@ -1,4 +1,6 @@
 // Two ends of the gigabit fibre channel and the two lines between them.
+#![tactic(auto)]
+
 ghost use Rattle.std.specs.Prelude.{◌+◌, ◌≤◌};
 
 use consolecommands::command::LONGEST;
@@ -15,7 +17,7 @@ const KEPT: u64 = LONGEST + 1;
 pub const LINE: usize = 53261;
 
 // The ends, the lines by where they lead, and how many slots there were since the link was made.
-#[derive(Drop)]
+#[derive(Clone, Copy)]
 pub struct Link {
     pub a: End,
     pub b: End,

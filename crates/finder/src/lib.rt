@@ -1,4 +1,6 @@
 // The finder of document 01, "The finder": the first acceptable frame of a capture, as a part of the caller's own list.
+#![tactic(auto)]
+
 ghost use Rattle.std.specs.Prelude.{◌≡◌, ◌+◌, ◌*◌};
 ghost use Rattle.frame.specs.Check.{right_at};
 ghost use Rattle.finder.specs.Finder.{find_of, stretch_of};
@@ -10,7 +12,7 @@ use answer::Answer;
 const LIMIT: usize = 32768;
 
 // The answer to a search, and the place of what was found: 0 on refusal.
-#[derive(Drop)]
+#[derive(Clone, Copy)]
 pub struct Found {
     pub answer: Answer,
     pub place: usize,

@@ -1,4 +1,6 @@
 // The frame of document 01, "The frame": parity, CRC, the twelve symbols of ten bytes, and the frame check.
+#![tactic(auto)]
+
 pub mod reason;
 mod words;
 
@@ -137,7 +139,7 @@ pub fn some_above(list: &[u16]) -> bool
 }
 
 // What the frame check gives: its answer, and the reason for it, Nothing where the list was not looked at.
-#[derive(Drop)]
+#[derive(Clone, Copy)]
 pub struct Checked {
     pub answer: Answer,
     pub reason: Reason,

@@ -3,7 +3,7 @@ ghost use Rattle.std.specs.Prelude.{◌≡◌};
 ghost use Rattle.frame.specs.Reason.{reason_number, place_of, is_accepted};
 
 // What the frame check says of twelve symbols, and an end of its collection with each symbol that it takes.
-#[derive(Drop)]
+#[derive(Clone, Copy)]
 pub enum Reason {
     // no twelve symbols to look at; no collection ended
     Nothing,

@@ -1,10 +1,12 @@
 // The reader of captures.
+#![tactic(auto)]
+
 pub mod lines;
 pub mod scan;
 
 use answer::Answer;
 
-#[derive(Drop)]
+#[derive(Clone, Copy)]
 pub struct Totals {
     pub frames: u64,
     pub crc: u64,
@@ -13,7 +15,7 @@ pub struct Totals {
     pub lapses: u64,
 }
 
-#[derive(Drop)]
+#[derive(Clone, Copy)]
 pub struct Reader {
     pub place: u64,
     pub until: u64,
@@ -21,14 +23,14 @@ pub struct Reader {
     pub over: bool,
 }
 
-#[derive(Drop)]
+#[derive(Clone, Copy)]
 pub struct Fed {
     pub reader: Reader,
     pub used: usize,
     pub put: usize,
 }
 
-#[derive(Drop)]
+#[derive(Clone, Copy)]
 pub struct Turn {
     pub reader: Reader,
     pub at: usize,
@@ -36,7 +38,7 @@ pub struct Turn {
     pub done: bool,
 }
 
-#[derive(Drop)]
+#[derive(Clone, Copy)]
 pub struct Told {
     pub reader: Reader,
     pub put: usize,

@@ -1,6 +1,8 @@
 // Request #104: an end that the C side keeps, as a record in bytes that it lends to each call. A call looks the record
 // over, reads its end, makes the call of crate `end` and writes the next end back. docs/RECORD.md has the offsets.
 // Requests #106 and #107: the counts, and the records of before, which an upgrade alone reads.
+#![tactic(auto)]
+
 ghost use Rattle.std.specs.Prelude.{◌≡◌, length};
 ghost use Rattle.recordspec.specs.Record.{size};
 ghost use Rattle.recordspec.specs.Results.{moved, sending, taking, reading, writing, setting_health, presenting};
@@ -16,21 +18,21 @@ use recordbytes::writing::{put_end, put_newer};
 use recordbytes::{SIZE, SIZE_ONE, SIZE_TWO, VERSION_ONE, VERSION_TWO};
 
 // What a call gives: its answer, and the symbol of a send, the value of a read, 1 for present; else 0.
-#[derive(Drop)]
+#[derive(Clone, Copy)]
 pub struct Reply {
     pub answer: Answer,
     pub value: u16,
 }
 
 // What a take gives that says why: its answer, and what became of the collection.
-#[derive(Drop)]
+#[derive(Clone, Copy)]
 pub struct Told {
     pub answer: Answer,
     pub reason: Reason,
 }
 
 // What asking for the counts gives: the answer, and the counts, all 0 where it is refused.
-#[derive(Drop)]
+#[derive(Clone, Copy)]
 pub struct Counted {
     pub answer: Answer,
     pub counts: Counts,

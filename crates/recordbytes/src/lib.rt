@@ -1,5 +1,7 @@
 // An end as a record in bytes: laid, read and refused, as the definitions of `recordspec` say. docs/RECORD.md has the
 // offsets.
+#![tactic(auto)]
+
 mod limits;
 pub mod reading;
 pub mod refusing;

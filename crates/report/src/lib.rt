@@ -4,6 +4,8 @@
 //
 // In these files conditions are joined by `&`, not `&&`: no part of one can fail, and with no branch in it a condition
 // is one equation to its definition.
+#![tactic(auto)]
+
 mod sending;
 mod taking;
 
@@ -20,28 +22,28 @@ pub const BLOCK: usize = 128;
 pub const PARTS: u8 = 16;
 
 // The sending host: the block under way, and the number that is next. From 16 on no block is under way.
-#[derive(Drop)]
+#[derive(Clone, Copy)]
 pub struct SendingHost {
     pub block: [u8; 128],
     pub next: u8,
 }
 
 // The taking host: the part block, and the number in turn.
-#[derive(Drop)]
+#[derive(Clone, Copy)]
 pub struct TakingHost {
     pub block: [u8; 128],
     pub turn: u8,
 }
 
 // What offer gives.
-#[derive(Drop)]
+#[derive(Clone, Copy)]
 pub struct Offered {
     pub answer: Answer,
     pub host: SendingHost,
 }
 
 // What a sending host's step was.
-#[derive(Drop)]
+#[derive(Clone, Copy)]
 pub enum Push {
     // no block is under way
     Idle,
@@ -54,7 +56,7 @@ pub enum Push {
 }
 
 // What push gives.
-#[derive(Drop)]
+#[derive(Clone, Copy)]
 pub struct Pushed {
     pub what: Push,
     pub host: SendingHost,
@@ -62,7 +64,7 @@ pub struct Pushed {
 }
 
 // What a message is to a taking host.
-#[derive(Drop)]
+#[derive(Clone, Copy)]
 pub enum Take {
     // the message of that number stands in the part block
     Part(u8),
@@ -73,7 +75,7 @@ pub enum Take {
 }
 
 // What take gives: the block that is handed over, 128 zero bytes where none is.
-#[derive(Drop)]
+#[derive(Clone, Copy)]
 pub struct Taken {
     pub what: Take,
     pub block: [u8; 128],
@@ -81,7 +83,7 @@ pub struct Taken {
 }
 
 // What a taking host's step was.
-#[derive(Drop)]
+#[derive(Clone, Copy)]
 pub enum Pull {
     // the end refused a read
     Refused(Answer),
@@ -92,7 +94,7 @@ pub enum Pull {
 }
 
 // What pull gives: the block that is handed over, 128 zero bytes where none is.
-#[derive(Drop)]
+#[derive(Clone, Copy)]
 pub struct Pulled {
     pub what: Pull,
     pub block: [u8; 128],

@@ -6,7 +6,7 @@ use crate::{PARTS, Pull, Pulled, Take, Taken, TakingHost, done, place};
 use end::End;
 
 // What the four reads of a message give: its bytes, and the end after them.
-#[derive(Drop)]
+#[derive(Clone, Copy)]
 struct Words {
     bytes: [u8; 8],
     end: End,

@@ -1,1 +1,2 @@
 // Specs and proofs only: long runs of reporting hosts, computed.
+#![tactic(auto)]

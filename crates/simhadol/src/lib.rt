@@ -1,5 +1,7 @@
 // The calls that the C side makes, as include/simhadol.h declares them: those of crate `record`, with the answer as a
 // number.
+#![tactic(auto)]
+
 ghost use Rattle.std.specs.Prelude.{◌≡◌};
 ghost use Rattle.recordspec.specs.Record.{size};
 ghost use Rattle.recordspec.specs.Results.{sending, taking, reading, writing, setting_health, presenting};
@@ -10,7 +12,7 @@ use record::{Counted, Reply, Told};
 
 // An answer's number, and the symbol of a send, the value of a read, 1 for present; else 0.
 #[repr(C)]
-#[derive(Drop)]
+#[derive(Clone, Copy)]
 pub struct SimhadolReply {
     pub answer: u16,
     pub value: u16,
@@ -18,7 +20,7 @@ pub struct SimhadolReply {
 
 // An answer's number, that of what became of the collection, and how many symbols it had if it was broken; else 0.
 #[repr(C)]
-#[derive(Drop)]
+#[derive(Clone, Copy)]
 pub struct SimhadolTaken {
     pub answer: u16,
     pub reason: u16,
@@ -27,7 +29,7 @@ pub struct SimhadolTaken {
 
 // An answer's number, and the four counts; all 0 where it is refused.
 #[repr(C)]
-#[derive(Drop)]
+#[derive(Clone, Copy)]
 pub struct SimhadolCounted {
     pub answer: u16,
     pub accepted: u16,

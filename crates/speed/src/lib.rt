@@ -1,4 +1,6 @@
 // What tests/speed measures: proved calls under plain names, for a Rust or C program to link.
+#![tactic(auto)]
+
 mod pair;
 
 ghost use Rattle.std.specs.Prelude.{◌≡◌};

@@ -7,7 +7,7 @@ use end::End;
 // A message is written at a, and the register at b read, once in so many slots.
 const PERIOD: u32 = 48;
 
-#[derive(Drop)]
+#[derive(Clone, Copy)]
 pub struct Pair {
     pub a: End,
     pub b: End,

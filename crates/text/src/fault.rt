@@ -1,5 +1,5 @@
 // What can be wrong with a line.
-#[derive(Drop)]
+#[derive(Clone, Copy)]
 pub enum Fault {
     Command,
     Call,

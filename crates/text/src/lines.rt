@@ -8,7 +8,7 @@ use bytes::scan;
 
 // The text is held up to `filled`. The open line begins at `start`, and no newline stands from there up to `looked`.
 // A line too long to be held is being passed over, and quietly where it is a comment.
-#[derive(Drop)]
+#[derive(Clone, Copy)]
 pub struct Held {
     pub filled: usize,
     pub start: usize,
@@ -18,7 +18,7 @@ pub struct Held {
 }
 
 // What stands next: a whole line, the end of one that was too long, or a line that is still open.
-#[derive(Drop)]
+#[derive(Clone, Copy)]
 pub enum Kind {
     Whole,
     TooLong,
@@ -26,7 +26,7 @@ pub enum Kind {
 }
 
 // The next line: where it stands, and what is held after it. Only a whole line has bytes.
-#[derive(Drop)]
+#[derive(Clone, Copy)]
 pub struct Line {
     pub kind: Kind,
     pub start: usize,

@@ -8,7 +8,7 @@ use crate::numbers::{HEX, Number, spelled};
 use crate::words::next;
 
 // How many numbers were read, or what was wrong with one.
-#[derive(Drop)]
+#[derive(Clone, Copy)]
 pub enum Listed {
     Count(usize),
     Wrong(Fault),

@@ -14,14 +14,14 @@ pub const HEX: u64 = 16;
 pub const MOST: u64 = 65535;
 
 // A number that was read, or what was wrong with it.
-#[derive(Drop)]
+#[derive(Clone, Copy)]
 pub enum Number {
     Value(u16),
     Wrong(Fault),
 }
 
 // The same of a number of thirty-two bits.
-#[derive(Drop)]
+#[derive(Clone, Copy)]
 pub enum Long {
     Value(u32),
     Wrong(Fault),

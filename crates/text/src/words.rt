@@ -5,14 +5,14 @@ ghost use Rattle.text.specs.Words.{asks_of, name_of, none_of, place_of, rest_of,
 use bytes::scan;
 
 // Where a word stands: from start up to end, which is no part of it. An empty word stands where the line has no more.
-#[derive(Drop)]
+#[derive(Clone, Copy)]
 pub struct Word {
     pub start: usize,
     pub end: usize,
 }
 
 // A line's first word: whether it asks for anything, its place among the names, and the place after it.
-#[derive(Drop)]
+#[derive(Clone, Copy)]
 pub struct First {
     pub asks: bool,
     pub name: usize,

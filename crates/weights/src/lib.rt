@@ -1,4 +1,6 @@
 // What register values and symbols are made of: single bits, and bytes.
+#![tactic(auto)]
+
 ghost use Rattle.std.specs.Prelude.{◌≡◌, ◌≤◌};
 ghost use Rattle.weights.specs.Weights.{bit};
 

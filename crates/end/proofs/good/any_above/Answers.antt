@@ -1,0 +1,37 @@
+-- `good::any_above` meets its contract: the list has a symbol above the limit where one of those passed is, or what is
+-- left of it has one. Assumes nothing.
+use Prim.Native.Nat.{◌-◌}
+use mathlib.Core.Logic.{⊎_elim}
+use mathlib.Core.Path.{◌≡◌, refl, ◌∙◌}
+use native.Mathlib.Omega.{arith}
+use borrow.Author.Rules.{rules}
+use lib.ListN.{length}
+use Rattle.laws.specs.Above.{above}
+use Rattle.laws.proofs.AboveLaws.{above_here, above_next, above_end}
+use Rattle.end.proofs.good.any_above.Goals as goal
+
+pub loop-i-init : goal.loop-i-init
+loop-i-init c = (omega arith, refl)
+
+pub loop-i-preserved : goal.loop-i-preserved
+loop-i-preserved c =
+    let s = c in
+    let at = s.loop-i in
+    let a = s.args in
+    let twelve : length a.symbols ≡ 12 = search rules in
+    let inside = c.loop-i-test.true in (
+      omega arith,
+      ⊎_elim
+          (λ w. rw w.1
+          (above_here a.limit a.symbols at.i at.found (omega arith) w.0.taken ∙ at.invariant.1))
+          (λ w. rw w.1
+          (above_next a.limit a.symbols at.i at.found (omega arith) w.0.left ∙ at.invariant.1))
+          c.if-limit-symbols.branch,
+    )
+
+pub returns : goal.returns
+returns c =
+    let at = c.loop-i in
+    let a = c.args in
+    let twelve : length a.symbols ≡ 12 = search rules in
+    above_end a.limit a.symbols at.i at.found (omega arith) ∙ at.invariant.1

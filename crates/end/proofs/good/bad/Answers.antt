@@ -1,0 +1,10 @@
+-- `good::bad` meets its contract. Both sides are the same disjunction, bracketed otherwise. Assumes nothing.
+use Rattle.end.specs.Good.{bad}
+use Rattle.laws.proofs.Bools.{or_assoc}
+use Rattle.end.proofs.good.bad.Goals as goal
+
+pub returns : goal.returns
+unfolding bad
+returns c =
+    let a = c in
+    rw (a.any_above.ensures, a.any_above-2.ensures) (simp or_assoc)

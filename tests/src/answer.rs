@@ -1,4 +1,4 @@
-//! Document 01, "Answer numbers"; from document 02, 10 is #101's, 11 is #104's and 12 is #111's.
+//! Document 01, "Answer numbers"; from document 02, 10 is #101's and 11 is #104's.
 
 #[derive(Clone, Copy, Debug, PartialEq, Eq)]
 pub enum Answer {
@@ -14,7 +14,6 @@ pub enum Answer {
     NotAcceptable = 9,
     ReadOnlyBits = 10,
     BadRecord = 11,
-    OddByte = 12,
 }
 
 impl Answer {

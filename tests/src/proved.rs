@@ -10,10 +10,6 @@ use std::thread;
 const PROGRAM: &str = "SIMHADOL_BENCH";
 const DEFAULT_PROGRAM: &str = "../bench";
 
-/// The same for the reader of captures.
-const READER: &str = "SIMHADOL_CAPTURE";
-const DEFAULT_READER: &str = "../capture";
-
 /// The folder of this package. Cargo names it to what it runs, so that a copied tree tests its own programs though it
 /// was compiled elsewhere; what runs without cargo has the folder it was compiled in.
 pub fn package() -> PathBuf {
@@ -22,15 +18,6 @@ pub fn package() -> PathBuf {
 
 fn path() -> PathBuf {
     package().join(env::var_os(PROGRAM).unwrap_or_else(|| DEFAULT_PROGRAM.into()))
-}
-
-pub fn reader_path() -> PathBuf {
-    package().join(env::var_os(READER).unwrap_or_else(|| DEFAULT_READER.into()))
-}
-
-/// What runs the reader of captures.
-pub fn reader() -> Command {
-    Command::new(reader_path())
 }
 
 /// Starts the console that these words name, with its input and output in our hands.

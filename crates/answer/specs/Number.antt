@@ -1,11 +1,11 @@
--- The answer numbers of document 01, 10 of request #101, 11 of #104 and 12 of #111.
+-- The answer numbers of document 01, 10 of request #101 and 11 of #104.
 --   number_of a      the number of the answer a in the table
 -- Assumes nothing.
 use Rattle.std.specs.Prelude.{ℕ}
 use Rattle.answer.specs.declared.Answer.{Answer}
 use Rattle.answer.specs.declared.Answer.TheVariants.{Done, BadEnd, NoRegister, ReadOnly, Blocked}
 use Rattle.answer.specs.declared.Answer.TheVariants.{BadSymbol, BadHealth, BadLength, NothingFound, NotAcceptable, ReadOnlyBits}
-use Rattle.answer.specs.declared.Answer.TheVariants.{BadRecord, OddByte}
+use Rattle.answer.specs.declared.Answer.TheVariants.{BadRecord}
 
 abbrev pub number_of : Answer → ℕ
 number_of Done = 0
@@ -20,4 +20,3 @@ number_of NothingFound = 8
 number_of NotAcceptable = 9
 number_of ReadOnlyBits = 10
 number_of BadRecord = 11
-number_of OddByte = 12

@@ -1,5 +1,5 @@
-// Document 01, "Answer numbers", answer 10 of request #101, 11 of #104 and 12 of #111. An answer is an enum without data;
-// its number is what the table says.
+// Document 01, "Answer numbers", answer 10 of request #101 and 11 of #104. An answer is an enum without data; its number
+// is what the table says.
 #![tactic(auto)]
 
 ghost use Rattle.std.specs.Prelude.{◌≡◌};
@@ -19,7 +19,6 @@ pub enum Answer {
     NotAcceptable,
     ReadOnlyBits,
     BadRecord,
-    OddByte,
 }
 
 // The number in the table.
@@ -39,6 +38,5 @@ pub fn number(answer: Answer) -> u8
         Answer::NotAcceptable => 9,
         Answer::ReadOnlyBits => 10,
         Answer::BadRecord => 11,
-        Answer::OddByte => 12,
     }
 }

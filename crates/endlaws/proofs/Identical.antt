@@ -18,7 +18,7 @@ use Rattle.answer.specs.Number.{number_of}
 use Rattle.answer.specs.declared.Answer.{Answer}
 use Rattle.answer.specs.declared.Answer.TheVariants.{Done, BadEnd, NoRegister, ReadOnly, Blocked, BadSymbol}
 use Rattle.answer.specs.declared.Answer.TheVariants.{BadHealth, BadLength, NothingFound, NotAcceptable, ReadOnlyBits}
-use Rattle.answer.specs.declared.Answer.TheVariants.{BadRecord, OddByte}
+use Rattle.answer.specs.declared.Answer.TheVariants.{BadRecord}
 
 pub reset_identical : Identical reset.Post
 reset_identical κs a x y s e f = e ∙ sym f
@@ -56,8 +56,7 @@ from (suc (suc (suc (suc (suc (suc (suc zero))))))) = BadLength
 from (suc (suc (suc (suc (suc (suc (suc (suc zero)))))))) = NothingFound
 from (suc (suc (suc (suc (suc (suc (suc (suc (suc zero))))))))) = NotAcceptable
 from (suc (suc (suc (suc (suc (suc (suc (suc (suc (suc zero)))))))))) = ReadOnlyBits
-from (suc (suc (suc (suc (suc (suc (suc (suc (suc (suc (suc zero))))))))))) = BadRecord
-from (suc (suc (suc (suc (suc (suc (suc (suc (suc (suc (suc (suc n)))))))))))) = OddByte
+from (suc (suc (suc (suc (suc (suc (suc (suc (suc (suc (suc n))))))))))) = BadRecord
 
 from_number : (a : Answer) → from (number_of a) ≡ a
 unfolding from
@@ -73,7 +72,6 @@ from_number NothingFound = refl
 from_number NotAcceptable = refl
 from_number ReadOnlyBits = refl
 from_number BadRecord = refl
-from_number OddByte = refl
 
 pub number_of_same : (a b : Answer) → number_of a ≡ number_of b → a ≡ b
 number_of_same a b h = sym (from_number a) ∙ (ap from h ∙ from_number b)

@@ -3,13 +3,10 @@
 --   hex_of n v         the n lowest digits of v in hex, the highest first
 --   short_of b n v      v in digits of base b without leading zeros; of more than n digits the lowest ones
 --   decimal_of v       a number of 64 bits in decimal
---   tens_of n v        the n lowest digits of v in decimal, the highest first
 --   valued_of n v      a value in n digits after an answer: a space, the digits, a newline
 --   closing_of last    what stands after one of several words: a space, after the last a newline
---   Put x y at s r     the bytes s were put into the bytes x from the place `at` on, which are y then: they end before
---                      r, and what stands before and behind them stays
 -- Assumes nothing.
-use Rattle.std.specs.Prelude.{ℕ, zero, suc, ◌+◌, ◌/◌, ◌%◌, Bool, true, false, cond, List, [], ◌∷◌, ◌++◌, ◌≡◌, refl, ltb, length, take, drop}
+use Rattle.std.specs.Prelude.{ℕ, zero, suc, ◌+◌, ◌/◌, ◌%◌, Bool, true, false, cond, List, [], ◌∷◌, ◌++◌, ◌≡◌, refl, ltb}
 
 abbrev pub glyph_of : ℕ → ℕ
 glyph_of d = cond (ltb d 10) (48 + d) (55 + d)
@@ -25,21 +22,12 @@ short_of b (suc n) v = cond (ltb v b) (glyph_of v ∷ []) (short_of b n (v / b) 
 abbrev pub decimal_of : ℕ → List ℕ
 decimal_of v = short_of 10 20 v
 
-abbrev pub tens_of : ℕ → ℕ → List ℕ
-tens_of zero v = []
-tens_of (suc n) v = tens_of n (v / 10) ++ (glyph_of (v % 10) ∷ [])
-
 abbrev pub valued_of : ℕ → ℕ → List ℕ
 valued_of n v = 32 ∷ (hex_of n v ++ (10 ∷ []))
 
 abbrev pub closing_of : Bool → ℕ
 closing_of true = 10
 closing_of false = 32
-
-pub record Put (x y : List ℕ) (at : ℕ) (s : List ℕ) (r : ℕ) : Type 0 where
-  pub next : r ≡ at + length s
-  pub bytes : take r y ≡ take at x ++ s
-  pub rest : drop r y ≡ drop r x
 
 -- 0A5 and A5 in hex; 0, 65535 and 18446744073709551615 in decimal
 three_digits : hex_of 3 0xA5 ≡ 0x30 ∷ 0x41 ∷ 0x35 ∷ []

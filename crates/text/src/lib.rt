@@ -7,5 +7,4 @@ pub mod lines;
 pub mod lists;
 pub mod numbers;
 pub mod print;
-pub mod put;
 pub mod words;

@@ -4,7 +4,6 @@ ghost use Rattle.std.specs.Prelude.{[], ◌∷◌, ◌++◌, ◌≡◌, ◌≤�
 ghost use Rattle.text.specs.Printed.{closing_of, decimal_of, glyph_of, hex_of, short_of, valued_of};
 
 use crate::fault::Fault;
-use crate::put;
 use bytes::scan;
 
 pub fn byte(out: &mut [u8], at: usize, b: u8) -> usize
@@ -37,8 +36,7 @@ pub fn hex(out: &mut [u8], at: usize, value: u64, digits: usize) -> usize
     byte(out, put, glyph(value % 16))
 }
 
-// The byte of a digit below sixteen.
-pub fn glyph(digit: u64) -> u8
+fn glyph(digit: u64) -> u8
     requires { digit < 16 }
     ensures { result ≡ glyph_of digit }
 {
@@ -71,7 +69,7 @@ pub fn decimal(out: &mut [u8], at: usize, value: u64) -> usize
     ensures upper_bound { result ≤ at + 20 }
     ensures out_after { take result out.new ≡ take at out.old ++ decimal_of value }
 {
-    put::decimal(out, at, value)
+    short(out, at, value, 10, 20)
 }
 
 // A number of eight bits in decimal, as an answer is.

@@ -1,8 +1,7 @@
-//! `soak SECONDS [SEED]`: random scripts and captures of every kind through both implementations, until the time is up
-//! or they differ.
+//! `soak SECONDS [SEED]`: random scripts of every kind through both implementations, until the time is up or they
+//! differ.
 
 use second::console::Console;
-use second::random::Random;
 use second::script::Script;
 use second::{fibre, t1};
 use std::env;
@@ -10,7 +9,6 @@ use std::process::ExitCode;
 use std::time::{Duration, Instant, SystemTime, UNIX_EPOCH};
 
 const LINES: usize = 50_000;
-const CAPTURES: usize = 100;
 
 fn main() -> ExitCode {
     let numbers: Option<Vec<u64>> = env::args().skip(1).map(|word| word.parse().ok()).collect();
@@ -35,7 +33,7 @@ fn clock_seed() -> u64 {
     SystemTime::now().duration_since(UNIX_EPOCH).map_or(0, |time| time.as_secs() * 1_000_000)
 }
 
-/// Each round has the next seed, one script of each kind, and some captures.
+/// Each round has the next seed, and one script of each kind.
 fn soak(time: Duration, first: u64) -> Result<(), String> {
     let start = Instant::now();
     let mut counts = Counts::default();
@@ -47,12 +45,10 @@ fn soak(time: Duration, first: u64) -> Result<(), String> {
         for (name, kind) in fibre::generate::KINDS {
             counts.compare(name, &kind(seed, LINES))?;
         }
-        counts.compare_captures(seed)?;
         seed += 1;
     }
-    let Counts { lines, calls, captures } = counts;
-    let work = format!("{} lines with {} calls on ends, {} captures", lines, calls, captures);
-    println!("seeds {} to {}, {}, no difference", first, seed - 1, work);
+    let Counts { lines, calls } = counts;
+    println!("seeds {} to {}, {} lines with {} calls on ends, no difference", first, seed - 1, lines, calls);
     Ok(())
 }
 
@@ -60,7 +56,6 @@ fn soak(time: Duration, first: u64) -> Result<(), String> {
 struct Counts {
     lines: usize,
     calls: usize,
-    captures: usize,
 }
 
 impl Counts {
@@ -68,17 +63,6 @@ impl Counts {
         script.compare().map_err(|why| format!("{}: {}", name, why))?;
         self.lines += script.lines;
         self.calls += script.calls;
-        Ok(())
-    }
-
-    fn compare_captures(&mut self, seed: u64) -> Result<(), String> {
-        let mut random = Random::new(seed);
-        for number in 0..CAPTURES {
-            let (kind, input) = t1::generate::recording(&mut random);
-            t1::capture::compare(&input)
-                .map_err(|why| format!("seed {}, capture {}, {}: {}", seed, number, kind, why))?;
-            self.captures += 1;
-        }
         Ok(())
     }
 }

@@ -1,11 +1,11 @@
 //! The proved programs and the calls from C against the second implementation, and all against document 01 with
-//! document 02's requests #101, #102, #104 to #107 and #109 to #111.
+//! document 02's requests #101, #102, #104 to #107, #109 and #110.
 //!
 //! A folder for each thing tested. Its modules import from `helpers` and from the second implementation only, so none
 //! of them has a public item.
 //!
-//! SIMHADOL_BENCH names the program that starts the consoles, SIMHADOL_CAPTURE the reader of captures, SIMHADOL_C the
-//! folder of the C programs, SIMHADOL_SEED the first seed.
+//! SIMHADOL_BENCH names the program that starts the consoles, SIMHADOL_C the folder of the C programs, SIMHADOL_SEED
+//! the first seed.
 
 mod helpers;
 
@@ -54,16 +54,6 @@ mod reports {
     mod offered;
     mod promise;
     mod turns;
-}
-
-mod captures {
-    mod broken;
-    mod cases;
-    mod cuts;
-    mod live;
-    mod memory;
-    mod random;
-    mod vectors;
 }
 
 mod fibre {

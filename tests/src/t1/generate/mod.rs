@@ -1,6 +1,5 @@
-//! Random scripts, records and captures, each made from its seed alone.
+//! Random scripts, each made from its seed alone.
 
-mod captures;
 mod classes;
 mod ends;
 mod finder;
@@ -10,7 +9,6 @@ mod links;
 mod records;
 mod reports;
 
-pub use captures::{bytes, long_recording, recording, PIECES};
 pub use classes::{symbols_of, words, Class, CLASSES};
 pub use ends::{control_value, ends, good_limit};
 pub use finder::{captures, noise, runs, without_frames, NOISES};

@@ -27,47 +27,47 @@ pub control-value-requires : goal.control-value-requires
 control-value-requires c = fine (goal.at.control-value-requires c).Else-bad
 
 pub pair-value-requires : goal.pair-value-requires
-pair-value-requires c = (number (goal.at.pair-value-requires c).After-named-name c.name-1.given.1).1
+pair-value-requires c = (number (goal.at.pair-value-requires c).After-named-name c.in-Message.is).1
 
 pub status-value-requires : goal.status-value-requires
 status-value-requires c = fine (goal.at.status-value-requires c).Else-bad
 
 pub pair-value-requires-in-Received : goal.pair-value-requires-in-Received
-pair-value-requires-in-Received c = (number (goal.at.pair-value-requires-in-Received c).After-named-name c.name-in-Received-1.given.1).1
+pair-value-requires-in-Received c = (number (goal.at.pair-value-requires-in-Received c).After-named-name c.in-Received.is).1
 
 pub returns-in-Control : goal.returns-in-Control
 returns-in-Control c =
     let s = c in
     let a = s.args in
-    let n = number s c.in-Control.is in
+    let n = number (goal.at.returns-in-Control s).After-named-name c.in-Control.is in
     rw (c.control-value.ensures, n) (sym (read_done a.self 2308 (fine (goal.at.returns-in-Control s).Else-bad) refl))
 
 pub returns-in-Message : goal.returns-in-Message
 returns-in-Message c =
     let s = c in
     let a = s.args in
-    let n = number s c.name-1.given.1 in
+    let n = number (goal.at.returns-in-Message s).After-named-name c.in-Message.is in
     rw (c.pair-value.ensures, n.0)
-    (sym (read_message a.self c.name-1.given.0.0 (fine (goal.at.returns-in-Message s).Else-bad) n.1))
+    (sym (read_message a.self c.in-Message.i (fine (goal.at.returns-in-Message s).Else-bad) n.1))
 
 pub returns-in-Status : goal.returns-in-Status
 returns-in-Status c =
     let s = c in
     let a = s.args in
-    let n = number s c.in-Status.is in
+    let n = number (goal.at.returns-in-Status s).After-named-name c.in-Status.is in
     rw (c.status-value.ensures, n) (sym (read_done a.self 2313 (fine (goal.at.returns-in-Status s).Else-bad) refl))
 
 pub returns-in-Received : goal.returns-in-Received
 returns-in-Received c =
     let s = c in
     let a = s.args in
-    let n = number s c.name-in-Received-1.given.1 in
-    let i = c.name-in-Received-1.given.0.0 in
+    let n = number (goal.at.returns-in-Received s).After-named-name c.in-Received.is in
+    let i = c.in-Received.i in
     rw (c.pair-value-in-Received.ensures, n.0) (sym (read_received a.self i (fine (goal.at.returns-in-Received s).Else-bad) n.1))
 
 pub returns-in-Outside : goal.returns-in-Outside
 returns-in-Outside c =
     let s = c in
     let a = s.args in
-    let n = number s c.in-Outside.is in
+    let n = number (goal.at.returns-in-Outside s).After-named-name c.in-Outside.is in
     sym (read_outside a.self a.register (fine (goal.at.returns-in-Outside s).Else-bad) n)

@@ -19,7 +19,7 @@ unfolding send_of
 returns-then-bad c = sym (cond_true _ _ (hence c.bad.ensures c.if-bad.true))
 
 pub slot_of-slot-requires : goal.slot_of-slot-requires
-slot_of-slot-requires c = fine c
+slot_of-slot-requires c = fine (goal.at.slot_of-slot-requires c).Else-bad
 
 pub bounds-symbols-position : goal.bounds-symbols-position
 bounds-symbols-position c =

@@ -26,5 +26,5 @@ taken-requires c = fine (goal.at.taken-requires c).Else-bad
 pub returns : goal.returns
 unfolding take_of
 returns c =
-    rw c.true.ensures
+    rw c.taken.ensures
     (sym (cond_false _ _ (fine (goal.at.returns c).Else-bad) ∙ cond_false _ _ (le-ltb 1023 _ c.if-symbol-gt-LARGEST.false)))

@@ -28,31 +28,31 @@ to_control-requires c = fine (goal.at.to_control-requires c).Else-bad
 
 pub to_message-requires : goal.to_message-requires
 to_message-requires c =
-    (fine (goal.at.to_message-requires c).Else-bad, (number (goal.at.to_message-requires c).Else-bad c.name-1.given.1).1)
+    (fine (goal.at.to_message-requires c).Else-bad, (number (goal.at.to_message-requires c).After-named-name c.in-Message.is).1)
 
 pub returns-in-Control : goal.returns-in-Control
 returns-in-Control c = rw (number (goal.at.returns-in-Control c).After-named-name c.in-Control.is) c.to_control.ensures
 
 pub returns-in-Message : goal.returns-in-Message
 returns-in-Message c =
-    rw (number (goal.at.returns-in-Message c).After-named-name c.name-1.given.1).0 c.to_message.ensures
+    rw (number (goal.at.returns-in-Message c).After-named-name c.in-Message.is).0 c.to_message.ensures
 
 pub returns-in-Status : goal.returns-in-Status
 returns-in-Status c =
     let s = c in
     let a = s.args in
-    let n = number s c.in-Status.is in
+    let n = number (goal.at.returns-in-Status s).After-named-name c.in-Status.is in
     rw n (sym (write_only a.self 2313 a.value (fine (goal.at.returns-in-Status s).Else-bad) refl refl))
 
 pub returns-in-Received : goal.returns-in-Received
 returns-in-Received c =
     let s = c in
     let a = s.args in
-    let n = number s c.in-Received.is in
-    rw n.0 (sym (write_received a.self c.enum_told-in-Received-1.given.0.0 a.value (fine (goal.at.returns-in-Received s).Else-bad) n.1))
+    let n = number (goal.at.returns-in-Received s).After-named-name c.in-Received.is in
+    rw n.0 (sym (write_received a.self c.in-Received.field-0 a.value (fine (goal.at.returns-in-Received s).Else-bad) n.1))
 
 pub returns-in-Outside : goal.returns-in-Outside
 returns-in-Outside c =
     let s = c in
     let a = s.args in
-    sym (write_outside a.self a.register a.value (fine (goal.at.returns-in-Outside s).Else-bad) (number s c.in-Outside.is))
+    sym (write_outside a.self a.register a.value (fine (goal.at.returns-in-Outside s).Else-bad) (number (goal.at.returns-in-Outside s).After-named-name c.in-Outside.is))

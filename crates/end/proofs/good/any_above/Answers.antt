@@ -1,7 +1,6 @@
 -- `good::any_above` meets its contract: the list has a symbol above the limit where one of those passed is, or what is
 -- left of it has one. Assumes nothing.
 use Prim.Native.Nat.{◌-◌}
-use mathlib.Core.Logic.{⊎_elim}
 use mathlib.Core.Path.{◌≡◌, refl, ◌∙◌}
 use native.Mathlib.Omega.{arith}
 use borrow.Author.Rules.{rules}
@@ -9,6 +8,7 @@ use lib.ListN.{length}
 use Rattle.laws.specs.Above.{above}
 use Rattle.laws.proofs.AboveLaws.{above_here, above_next, above_end}
 use Rattle.end.proofs.good.any_above.Goals as goal
+use Rattle.end.proofs.good.any_above.Goals.{else-limit-symbols, then-limit-symbols}
 
 pub loop-i-init : goal.loop-i-init
 loop-i-init c = (omega arith, refl)
@@ -21,12 +21,12 @@ loop-i-preserved c =
     let twelve : length a.symbols ≡ 12 = search rules in
     let inside = c.loop-i-test.true in (
       omega arith,
-      ⊎_elim
-          (λ w. rw w.1
-          (above_here a.limit a.symbols at.i at.found (omega arith) w.0.taken ∙ at.invariant.1))
-          (λ w. rw w.1
-          (above_next a.limit a.symbols at.i at.found (omega arith) w.0.left ∙ at.invariant.1))
-          c.if-limit-symbols.branch,
+      elim c.if-limit-symbols.branch [
+        | then-limit-symbols w ↦ rw w.found-is
+            (above_here a.limit a.symbols at.i at.found (omega arith) w.if-limit-symbols.true ∙ at.invariant.1)
+        | else-limit-symbols w ↦ rw w.found-is
+            (above_next a.limit a.symbols at.i at.found (omega arith) w.if-limit-symbols.false ∙ at.invariant.1)
+      ],
     )
 
 pub returns : goal.returns

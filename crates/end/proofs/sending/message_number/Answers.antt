@@ -6,7 +6,7 @@ use Rattle.end.proofs.Laws.{good}
 use Rattle.end.proofs.sending.message_number.Goals as goal
 
 pub returns-then-loading : goal.returns-then-loading
-returns-then-loading c = (sym (cond_true _ _ c.if-loading.true), (good _ c.requires).number)
+returns-then-loading c = record { value = sym (cond_true _ _ c.if-loading.true); upper_bound = (good _ c.requires).number }
 
 pub returns : goal.returns
-returns c = (sym (cond_false _ _ c.if-loading.false), omega arith)
+returns c = record { value = sym (cond_false _ _ c.if-loading.false); upper_bound = omega arith }

@@ -5,5 +5,5 @@ pub returns : goal.returns
 returns c =
     let b = c in
     let v = c in
-    rw (v.bit-valid.ensures.0, b.bit-toggle.ensures.0, b.bit-ack.ensures.0, b.bit-togack.ensures.0)
-    (rw (c.wide-number.ensures.0, c.message_number.ensures.0, v.is_valid.ensures))
+    rw (v.bit-valid.ensures.value, b.bit-toggle.ensures.value, b.bit-ack.ensures.value, b.bit-togack.ensures.value)
+    (rw (c.wide-number.ensures.value, c.message_number.ensures.value, v.is_valid.ensures))

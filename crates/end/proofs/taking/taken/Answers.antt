@@ -22,5 +22,5 @@ returns c =
     let x = s.args in
     let step = accepts_reason x.symbol x.end.collector.count s.collect-collector.result.symbols in
     let accepted = a.is_accepted-accepted.ensures ∙ ap is_accepted r.reason_of-reason.ensures ∙ step in
-    rw (c.left_After.ensures, t.tally-counts.ensures, n.enter-inbox.ensures, h.hear-heard.ensures, accepted, r.reason_of-reason.ensures)
+    rw (c.left_after-presence.ensures, t.tally-counts.ensures, n.enter-inbox.ensures, h.hear-heard.ensures, accepted, r.reason_of-reason.ensures)
     (rw (s.collect-collector.ensures, s.settle-settled.ensures))

@@ -7,7 +7,7 @@ ghost use Rattle.std.specs.Prelude.{◌≡◌, ◌≤◌, ◌+◌, length};
 ghost use Rattle.console.specs.Ready.{turn_room, Asked, Bare, Ready};
 ghost use Rattle.text.specs.Lines.{Holds};
 
-use libc::{STDIN_FILENO, STDOUT_FILENO};
+use std::io::{Read, Stdin, Stdout, Write};
 use text::fault::Fault;
 use text::lines::{Held, Kind};
 use text::{lines, print};
@@ -53,13 +53,13 @@ pub fn start() -> Console
 }
 
 // The next turn. A line too long to be held is answered here.
-pub fn next(text: &mut [u8], out: &mut [u8], console: Console) -> Turn
+pub fn next(stdin: Stdin, stdout: Stdout, text: &mut [u8], out: &mut [u8], console: Console) -> Turn
     requires { Ready console text.old out.old }
     ensures { Asked result text.new out.new }
 {
     let before = console.held;
     let ended = console.ended;
-    let at = with_room(out, console.at);
+    let at = with_room(stdout, out, console.at);
     let line = lines::next(text, before);
     let held = line.held;
     let kind = line.kind;
@@ -75,44 +75,76 @@ pub fn next(text: &mut [u8], out: &mut [u8], console: Console) -> Turn
             without_line(held, put, ended, false)
         }
         Kind::Open => {
-            io::write_all(STDOUT_FILENO, &out[0..at]);
+            hand_on(stdout, &out[0..at]);
             if ended {
                 return without_line(held, 0, true, true);
             }
-            read_on(text, held)
+            read_on(stdin, text, held)
         }
     }
 }
 
 // Where the output goes on: where a turn's bytes would not fit, the output is handed on and begins anew.
-fn with_room(out: &[u8], at: usize) -> usize
+fn with_room(stdout: Stdout, out: &[u8], at: usize) -> usize
     requires turn_room_in_bounds { turn_room ≤ length out.now }
     requires at_in_bounds { at ≤ length out.now }
     ensures { result + turn_room ≤ length out.now }
 {
     if out.len() - at < ROOM {
-        io::write_all(STDOUT_FILENO, &out[0..at]);
+        hand_on(stdout, &out[0..at]);
         return 0;
     }
     at
 }
 
 // Reads once behind what is held. Where the input has ended, or cannot be read, a newline ends its last line.
-fn read_on(text: &mut [u8], before: Held) -> Turn
+fn read_on(stdin: Stdin, text: &mut [u8], before: Held) -> Turn
     requires { Holds before (length text.old) }
     ensures holds { Holds result.console.held (length text.new) }
     ensures start_value { (result.start ≡ 0) × (result.stop ≡ 0) × (result.console.at ≡ 0) }
 {
     let held = lines::to_front(text, before);
     let filled = held.filled;
-    let got = libc::read(STDIN_FILENO, &mut text[filled..]);
-    let count = io::count(got, &text[filled..]);
+    let count = read(stdin, &mut text[filled..]);
     if count > 0 {
         let more = lines::with_more(text, held, count);
         return without_line(more, 0, false, false);
     }
     let last = lines::with_newline(text, held);
     without_line(last, 0, true, false)
+}
+
+// Reads once, into the beginning of the buffer, and answers how many bytes came: none where the input has ended, or
+// cannot be read.
+fn read(mut stdin: Stdin, into: &mut [u8]) -> usize
+    ensures { result ≤ length into.old }
+{
+    match stdin.read(into) {
+        Ok(count) => count,
+        Err(_) => 0,
+    }
+}
+
+// Writes all the bytes, up to the first write that takes none or fails.
+fn hand_on(stdout: Stdout, bytes: &[u8]) {
+    let mut done = 0;
+    while done < bytes.len() {
+        let count = write(stdout, &bytes[done..]);
+        if count == 0 {
+            return;
+        }
+        done += count;
+    }
+}
+
+// Writes once, and answers how many bytes were taken: none where it fails.
+fn write(mut stdout: Stdout, bytes: &[u8]) -> usize
+    ensures { result ≤ length bytes.now }
+{
+    match stdout.write(bytes) {
+        Ok(count) => count,
+        Err(_) => 0,
+    }
 }
 
 // A turn without a line.

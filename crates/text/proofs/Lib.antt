@@ -2,4 +2,5 @@ pub mod LineLaws
 pub mod NumberLaws
 pub mod PrintLaws
 pub mod ReadBack
+pub mod ScanLaws
 pub mod WordLaws

@@ -10,18 +10,17 @@
 --                              or it is another
 -- Assumes nothing.
 use Prim.Native.Nat.{ℕ, zero, suc, ◌+◌, ◌-◌, ◌≤◌, ◌<◌}
-use mathlib.Core.Bool.{Bool, true, false, cond, ◌&&◌}
+use mathlib.Core.Bool.{Bool, true, false, ◌&&◌}
 use mathlib.Core.List.{List, [], ◌∷◌, ◌++◌, append-nil, append_assoc}
 use mathlib.Core.Path.{◌≡◌, refl, sym, ap, ap₂, ◌∙◌}
-use native.Mathlib.Nat.{add-zero, add-suc}
+use native.Mathlib.Nat.{add-zero}
 use native.Mathlib.Numerals.{add-one}
 use native.Mathlib.Omega.{arith}
 use borrow.Author.Tests.{eq-eqb, ne_eqb, eqb-true, ltb-true, ltb-false}
 use lib.Dec.{eqb, ltb}
 use lib.ListN.{length, take, drop, get_or, length-drop}
 use lib.Seq.{drop-cons, drop-drop, drop-length, take-length, get_or-take, get_or-drop}
-use Rattle.bytes.specs.Bytes.{index_of, index_after, slice}
-use Rattle.text.specs.declared.words.Word.{Word}
+use Rattle.text.specs.Bytes.{index_of, slice}
 use Rattle.text.specs.Words.{ended, parted, words_of, rest_of, same_as, place_of, spaces_of, Stands}
 
 -- at the place i of the line l
@@ -45,7 +44,7 @@ spaces_end l i e = rw (e, drop-length l) refl
 parted_by : (w : List ℕ) (x : ℕ) (l : List ℕ) (t : Bool) → eqb x 32 ≡ t
     → ((v : List ℕ) → parted v l ≡ ended (v ++ take (index_of 32 l) l) (words_of (drop (index_of 32 l) l)))
     → parted w (x ∷ l) ≡ ended (w ++ take (index_of 32 (x ∷ l)) (x ∷ l)) (words_of (drop (index_of 32 (x ∷ l)) (x ∷ l)))
-unfolding parted ended index_of index_after
+unfolding parted ended index_of
 parted_by w x l true e k = rw (e, e, append-nil w) refl
 parted_by w x l false e k =
     rw e
@@ -70,7 +69,7 @@ spaces_words (x ∷ l) = spaces_by x l (eqb x 32) refl (spaces_words l)
 
 none_by : (x : ℕ) (l : List ℕ) (t : Bool) → eqb x 32 ≡ t → (index_of 32 (drop (spaces_of l) l) ≡ 0 → words_of l ≡ [])
     → index_of 32 (drop (spaces_of (x ∷ l)) (x ∷ l)) ≡ 0 → words_of (x ∷ l) ≡ []
-unfolding parted ended spaces_of index_of index_after
+unfolding parted ended spaces_of index_of
 none_by x l true e k n = rw e (k (rw e at n))
 none_by x l false e k n = absurd (let m : suc (index_of 32 l) ≡ 0 = rw (e, e) at n in omega arith)
 

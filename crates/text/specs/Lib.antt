@@ -1,3 +1,4 @@
+pub mod Bytes
 pub mod Words
 pub mod Numbers
 pub mod Lines

@@ -10,8 +10,8 @@
 --   Holds h n           what is held of a text in a buffer of n bytes: the open line begins where it was looked at or
 --                       before, and that is within what is held
 -- Assumes nothing.
-use Rattle.std.specs.Prelude.{ℕ, ◌+◌, ◌-◌, ◌≤◌, Bool, true, false, cond, List, eqb, ltb, length, get_or}
-use Rattle.bytes.specs.Bytes.{index_of, slice}
+use Rattle.std.specs.Prelude.{ℕ, ◌+◌, ◌-◌, ◌≤◌, Bool, false, cond, List, eqb, ltb, get_or}
+use Rattle.text.specs.Bytes.{index_of, slice}
 use Rattle.text.specs.declared.lines.Held.{Held}
 use Rattle.text.specs.declared.lines.Kind.{Kind}
 use Rattle.text.specs.declared.lines.Line.{Line}

@@ -7,4 +7,5 @@ pub mod lines;
 pub mod lists;
 pub mod numbers;
 pub mod print;
+mod scan;
 pub mod words;

@@ -3,8 +3,7 @@
 ghost use Rattle.std.specs.Prelude.{◌≡◌, ◌≤◌, ◌+◌, length, take, drop};
 ghost use Rattle.text.specs.Lines.{line_of, passed_of, stop_of, Holds};
 
-use crate::words;
-use bytes::scan;
+use crate::{scan, words};
 
 // The text is held up to `filled`. The open line begins at `start`, and no newline stands from there up to `looked`.
 // A line too long to be held is being passed over, and quietly where it is a comment.

@@ -4,7 +4,7 @@ ghost use Rattle.std.specs.Prelude.{[], ◌∷◌, ◌++◌, ◌≡◌, ◌≤�
 ghost use Rattle.text.specs.Printed.{closing_of, decimal_of, glyph_of, hex_of, short_of, valued_of};
 
 use crate::fault::Fault;
-use bytes::scan;
+use crate::scan;
 
 pub fn byte(out: &mut [u8], at: usize, b: u8) -> usize
     requires { at < length out.old }
@@ -20,7 +20,9 @@ pub fn text(out: &mut [u8], at: usize, bytes: &[u8]) -> usize
     ensures value { result ≡ at + length bytes.now }
     ensures out_after { take result out.new ≡ take at out.old ++ bytes.now }
 {
-    at + bytes::copy(bytes, &mut out[at..])
+    let end = at + bytes.len();
+    out[at..end].copy_from_slice(bytes);
+    end
 }
 
 // The lowest digits of a value, in upper case hex.

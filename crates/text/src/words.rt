@@ -2,7 +2,7 @@
 ghost use Rattle.std.specs.Prelude.{◌≡◌, ◌≤◌, ◌+◌, length, drop};
 ghost use Rattle.text.specs.Words.{asks_of, name_of, none_of, place_of, rest_of, spaces_of, words_of, Stands};
 
-use bytes::scan;
+use crate::scan;
 
 // Where a word stands: from start up to end, which is no part of it. An empty word stands where the line has no more.
 #[derive(Clone, Copy)]

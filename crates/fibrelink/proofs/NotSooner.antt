@@ -12,7 +12,7 @@ use mathlib.Core.List.{List, [], ◌∷◌, map}
 use mathlib.Core.Path.{◌≡◌, refl, sym, ap, ap₂, subst, ◌∙◌}
 use native.Mathlib.Omega.{arith}
 use lib.Dec.{ltb}
-use lib.ListN.{length, take, drop, length-append}
+use lib.ListN.{length, drop, length-append}
 use Rattle.crc.specs.Bits.{odd}
 use Rattle.fibre.specs.declared.Block.{Block}
 use Rattle.fibre.specs.declared.End.{End}

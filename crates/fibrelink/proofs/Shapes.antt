@@ -9,7 +9,6 @@ use Prim.Native.Nat.{ℕ, zero, suc, ◌≤◌}
 use mathlib.Core.Bool.{false}
 use mathlib.Core.List.{List, [], ◌∷◌, map}
 use mathlib.Core.Path.{refl, sym, subst}
-use lib.ListN.{take}
 use Rattle.laws.specs.Above.{above}
 use Rattle.fibre.specs.declared.Block.{Block}
 use Rattle.fibre.specs.Shape.{Eight, Shaped}

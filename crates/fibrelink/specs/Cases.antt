@@ -16,7 +16,7 @@
 --   Case, table    the rows of each case
 -- Assumes nothing.
 use Prim.{Unit}
-use Rattle.std.specs.Prelude.{ℕ, ◌+◌, ◌<◌, true, List, [], ◌∷◌, ◌++◌, map, ◌≡◌, take, drop, replicate}
+use Rattle.std.specs.Prelude.{ℕ, ◌<◌, true, List, [], ◌∷◌, ◌++◌, map, ◌≡◌, take, drop, replicate}
 use Rattle.std.proofs.Common.{arith}
 use Rattle.fibre.specs.declared.Block.{Block}
 use Rattle.weights.specs.Weights.{bit}

@@ -2,7 +2,7 @@
 --   run_append     a run of two lists of events is a run of the second after a run of the first
 --   every_append   each event of both passes a test, where those of the first do, and those of the second do after them
 -- Assumes nothing.
-use mathlib.Core.Bool.{Bool, true, ◌&&◌}
+use mathlib.Core.Bool.{Bool, true}
 use mathlib.Core.List.{List, [], ◌∷◌, ◌++◌}
 use mathlib.Core.Path.{◌≡◌, refl}
 use Rattle.laws.proofs.Bools.{and_both, and-true}

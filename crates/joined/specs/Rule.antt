@@ -12,7 +12,7 @@
 --   reads_in, reads_through  the receive-side reads, in one event and in a run, of the host that takes the messages of a
 --                 direction; by says which of them a call is
 -- Assumes nothing.
-use Rattle.std.specs.Prelude.{ℕ, suc, ◌+◌, ◌<◌, Bool, true, false, cond, List, [], ◌∷◌, ◌++◌, ◌≡◌, length}
+use Rattle.std.specs.Prelude.{ℕ, suc, ◌<◌, Bool, true, false, cond, List, [], ◌∷◌, ◌++◌, ◌≡◌, length}
 use Rattle.joined.specs.Joined.{Direction, a_to_b, b_to_a, Pair, EventOf, slot, at_a, at_b, bit15, within}
 
 pub record ReadOut : Type 0 where

@@ -1,9 +1,8 @@
 -- `frame::build` meets its contract: BuildLaws says what its loop keeps. Assumes nothing.
 use borrow.Author.Rules.{rules}
-use Prim.Native.Nat.{◌-◌}
 use native.Mathlib.Omega.{arith}
 use mathlib.Core.Path.{◌∙◌}
-use lib.ListN.{length, length-set}
+use lib.ListN.{length-set}
 use Rattle.frame.proofs.BuildLaws.{build_start, build_more, build_last}
 use Rattle.frame.proofs.build.Goals as goal
 

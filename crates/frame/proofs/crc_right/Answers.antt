@@ -1,9 +1,8 @@
 -- `frame::crc_right` meets its contract: BuildLaws says what its loop keeps. Assumes nothing.
 use borrow.Author.Rules.{rules}
-use Prim.Native.Nat.{◌-◌}
 use native.Mathlib.Omega.{arith}
 use mathlib.Core.Path.{refl, ◌∙◌}
-use lib.ListN.{length, length-set}
+use lib.ListN.{length-set}
 use Rattle.frame.proofs.BuildLaws.{data_more, data_last}
 use Rattle.frame.proofs.crc_right.Goals as goal
 

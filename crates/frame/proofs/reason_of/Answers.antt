@@ -1,6 +1,5 @@
 -- `frame::reason_of` meets its contract: the symbols stored so far and those still to come are the list, and the first
 -- fault of those still to come is the list's. Assumes nothing.
-use Prim.Native.Nat.{◌-◌}
 use native.Mathlib.Omega.{arith}
 use mathlib.Core.Bool.{Bool, true, false, cond}
 use mathlib.Core.Path.{◌≡◌, refl, ap, sym, ◌∙◌}

@@ -2,7 +2,7 @@
 -- fault of those still to come is the list's. Assumes nothing.
 use Prim.Native.Nat.{◌-◌, ◌≤◌}
 use mathlib.Core.List.{◌++◌}
-use mathlib.Core.Path.{◌≡◌, sym}
+use mathlib.Core.Path.{◌≡◌}
 use lib.ListN.{length, take, drop}
 use Rattle.frame.specs.Reason.{fault_from, reason_of}
 use Rattle.frame.proofs.ReasonLaws.{by_crc}

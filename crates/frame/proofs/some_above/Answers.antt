@@ -1,6 +1,5 @@
 -- `frame::some_above` meets its contract: the list has a number above the largest symbol where one of those passed is,
 -- or what is left of it has one. Assumes nothing.
-use Prim.Native.Nat.{◌-◌}
 use mathlib.Core.Path.{refl, ◌∙◌}
 use borrow.Author.Rules.{rules}
 use Rattle.frame.specs.Check.{largest}

@@ -1,12 +1,10 @@
 -- `message::message_of` meets its contract. The invariant: the bytes before i are those of the symbols.
 -- Assumes nothing.
-use Prim.Native.Nat.{◌-◌}
-use mathlib.Core.List.{map}
 use mathlib.Core.Path.{◌≡◌, refl, sym, ◌∙◌}
 use native.Mathlib.Nat.{add_comm, le_of_eq}
 use native.Mathlib.Numerals.{add-one}
 use native.Mathlib.Omega.{arith}
-use lib.ListN.{length, take, drop, length-set, length-drop}
+use lib.ListN.{length, drop, length-set, length-drop}
 use lib.Seq.{get_or-drop, take_all}
 use borrow.Author.Rules.{rules}
 use Rattle.frame.specs.Frame.{data_of}

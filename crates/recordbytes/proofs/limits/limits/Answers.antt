@@ -2,12 +2,8 @@
 -- Assumes nothing.
 use mathlib.Core.Path.{refl}
 use Rattle.recordspec.specs.Record.{front_of, back_of, limits}
-use Rattle.recordbytes.proofs.limits.limits.Statement.{statement}
-use Rattle.recordbytes.proofs.limits.limits.Tie as tie
+use Rattle.recordbytes.proofs.limits.limits.Goals as goal
 
-returns : tie.Need-returns
+pub returns : goal.returns
 unfolding limits front_of back_of
 returns c = refl
-
-pub limits-spec : {M : Type 1} → statement M
-limits-spec = tie.close (tie.spec returns)

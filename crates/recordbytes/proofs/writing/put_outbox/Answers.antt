@@ -1,0 +1,12 @@
+-- `writing::put_outbox` meets its contract: one part behind the other.
+-- Assumes nothing.
+use lib.ListN.{take}
+use Rattle.laws.proofs.Pieces.{chained}
+use Rattle.recordbytes.proofs.writing.put_outbox.Goals as goal
+
+pub returns : goal.returns
+returns c =
+    let p = c in
+    let s = p in
+    let a = s.args in
+    chained _ _ (take 32 a.area.now) _ a.outbox.bytes s.put.ensures p.put_eight.ensures

@@ -18,7 +18,6 @@ use Rattle.end.specs.declared.End.{End}
 use Rattle.end.specs.declared.Read.{Read}
 use Rattle.end.specs.Registers.{read_of}
 use Rattle.report.specs.declared.TakingHost.{TakingHost}
-use Rattle.report.specs.declared.Take.{Take}
 use Rattle.report.specs.declared.Take.TheVariants.{Part, Out, Whole}
 use Rattle.report.specs.declared.Taken.{Taken}
 use Rattle.report.specs.declared.Pull.TheVariants.{Refused, Empty, Took}

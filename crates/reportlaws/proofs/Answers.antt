@@ -20,14 +20,11 @@ use Rattle.endlaws.proofs.Calls.{bytes_answers, status_answers}
 use Rattle.report.specs.declared.SendingHost.{SendingHost}
 use Rattle.report.specs.declared.Offered.{Offered}
 use Rattle.report.specs.declared.Push.{Push}
-use Rattle.report.specs.declared.Push.TheVariants as Push
 use Rattle.report.specs.declared.Pushed.{Pushed}
 use Rattle.report.specs.declared.TakingHost.{TakingHost}
 use Rattle.report.specs.declared.Take.{Take}
-use Rattle.report.specs.declared.Take.TheVariants as Take
 use Rattle.report.specs.declared.Taken.{Taken}
 use Rattle.report.specs.declared.Pull.{Pull}
-use Rattle.report.specs.declared.Pull.TheVariants as Pull
 use Rattle.report.specs.declared.Pulled.{Pulled}
 use Rattle.report.specs.Sending.{offer_of, push_of}
 use Rattle.report.specs.Taking.{take_of, pull_of}

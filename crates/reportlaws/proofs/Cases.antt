@@ -30,7 +30,6 @@ use Rattle.endlaws.proofs.Calls.{bytes_alike, bytes_leave, control_follows, stat
 use Rattle.report.specs.declared.SendingHost.{SendingHost}
 use Rattle.report.specs.declared.Offered.{Offered}
 use Rattle.report.specs.declared.Push.{Push}
-use Rattle.report.specs.declared.Push.TheVariants as Push
 use Rattle.report.specs.declared.Pushed.{Pushed}
 use Rattle.report.specs.declared.TakingHost.{TakingHost}
 use Rattle.report.specs.declared.Take.TheVariants as Take

@@ -125,25 +125,11 @@ fn read(mut stdin: Stdin, into: &mut [u8]) -> usize
     }
 }
 
-// Writes all the bytes, up to the first write that takes none or fails.
-fn hand_on(stdout: Stdout, bytes: &[u8]) {
-    let mut done = 0;
-    while done < bytes.len() {
-        let count = write(stdout, &bytes[done..]);
-        if count == 0 {
-            return;
-        }
-        done += count;
-    }
-}
-
-// Writes once, and answers how many bytes were taken: none where it fails.
-fn write(mut stdout: Stdout, bytes: &[u8]) -> usize
-    ensures { result ≤ length bytes.now }
-{
-    match stdout.write(bytes) {
-        Ok(count) => count,
-        Err(_) => 0,
+// Writes all the bytes. Where a write fails, the bytes that it left are dropped.
+fn hand_on(mut stdout: Stdout, bytes: &[u8]) {
+    match stdout.write_all(bytes) {
+        Ok(()) => {}
+        Err(_) => {}
     }
 }
 

@@ -1,0 +1,13 @@
+-- `reset` meets its contract: the area is filled with the end after reset.
+-- Assumes nothing.
+use mathlib.Core.Path.{ap, ◌∙◌}
+use Rattle.end.specs.declared.End.{End}
+use Rattle.record.specs.Calls.{filled, resetting}
+use Rattle.record.proofs.reset.Goals as goal
+
+pub returns : goal.returns
+unfolding resetting
+returns c =
+    let f = c in
+    let e = f in
+    let a = e.args.area.now in record { value = f.fill.ensures.value ∙ ap (λ (x : End). (filled x a).reply) e.reset-fresh.ensures; area_after = f.fill.ensures.area_after ∙ ap (λ (x : End). (filled x a).bytes) e.reset-fresh.ensures }

@@ -1,0 +1,11 @@
+-- `take` meets its contract: it is the take that says why, without the reason.
+-- Assumes nothing.
+use mathlib.Core.Path.{ap}
+use Rattle.record.specs.declared.Told.{Told}
+use Rattle.record.proofs.Gave.{take_reply}
+use Rattle.record.proofs.take.Goals as goal
+
+pub returns : goal.returns
+returns c =
+    let t = c in
+    record { value = take_reply _ _ (ap (λ (x : Told). x.answer) t.take_reason-told.ensures.value); area_after = t.take_reason-told.ensures.area_after }

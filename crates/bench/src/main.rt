@@ -14,5 +14,12 @@ fn main(rt: HostRuntime) {
     let mut symbols = [0u16; LISTED];
     let mut out = [0u8; console::GATHERED];
     let mut sent = [0u16; benchlink::SENT];
-    serve::serve(rt.stdin(), rt.stdout(), &mut text, &mut symbols, &mut out, &mut sent);
+    serve::serve(
+        rt.stdin(),
+        rt.stdout(),
+        &mut text,
+        &mut symbols,
+        &mut out,
+        &mut sent,
+    );
 }

@@ -9,10 +9,10 @@ mod state;
 // How many symbols a list can have: more than a line can hold.
 const LISTED: usize = 131072;
 
-fn main() {
+fn main(rt: HostRuntime) {
     let mut text = [0u8; console::HELD];
     let mut symbols = [0u16; LISTED];
     let mut out = [0u8; console::GATHERED];
     let mut sent = [0u16; benchlink::SENT];
-    serve::serve(&mut text, &mut symbols, &mut out, &mut sent);
+    serve::serve(rt.stdin(), rt.stdout(), &mut text, &mut symbols, &mut out, &mut sent);
 }

@@ -6,6 +6,7 @@ use crate::state::Bench;
 use crate::{session, state};
 use benchlink::SENT;
 use console::Console;
+use std::io::{Stdin, Stdout};
 
 // The bench and the console after a line, and whether all is over.
 #[derive(Clone, Copy)]
@@ -17,14 +18,21 @@ pub struct After {
 
 // Answers line after line until the input ends. A proved loop has to end, so it counts its turns down from a number
 // that no run uses up.
-pub fn serve(text: &mut [u8], symbols: &mut [u16], out: &mut [u8], sent: &mut [u16; SENT])
+pub fn serve(
+    stdin: Stdin,
+    stdout: Stdout,
+    text: &mut [u8],
+    symbols: &mut [u16],
+    out: &mut [u8],
+    sent: &mut [u16; SENT],
+)
     requires { turn_room ≤ length out.old }
 {
     let mut bench = state::start(0, 0);
     let mut console = console::start();
     let mut turns = u64::MAX;
     while turns > 0 {
-        let after = turn(text, symbols, out, sent, bench, console);
+        let after = turn(stdin, stdout, text, symbols, out, sent, bench, console);
         if after.over {
             return;
         }
@@ -36,6 +44,8 @@ pub fn serve(text: &mut [u8], symbols: &mut [u16], out: &mut [u8], sent: &mut [u
 
 // The next line is answered.
 fn turn(
+    stdin: Stdin,
+    stdout: Stdout,
     text: &mut [u8],
     symbols: &mut [u16],
     out: &mut [u8],
@@ -46,7 +56,7 @@ fn turn(
     requires { Ready before text.old out.old }
     ensures { Ready result.console text.new out.new }
 {
-    let next = console::next(text, out, before);
+    let next = console::next(stdin, stdout, text, out, before);
     let start = next.start;
     let stop = next.stop;
     let mut console = next.console;

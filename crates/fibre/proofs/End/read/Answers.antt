@@ -28,61 +28,50 @@ control-value-requires c = fine (goal.at.control-value-requires c).Else-bad
 
 pub offset_bounds-words-i : goal.offset_bounds-words-i
 offset_bounds-words-i c =
-    let s = c in
-    omega (arith, (number (goal.at.offset_bounds-words-i s).After-named-name s.in-Message.is).1)
+    omega (arith, (number (goal.at.offset_bounds-words-i c).After-named-name c.in-Message.is).1)
 
 pub bounds-words-i : goal.bounds-words-i
 bounds-words-i c =
-    let s = c in
-    (number (goal.at.bounds-words-i s).After-named-name s.in-Message.is).1
+    (number (goal.at.bounds-words-i c).After-named-name c.in-Message.is).1
 
 pub status-value-requires : goal.status-value-requires
 status-value-requires c = fine (goal.at.status-value-requires c).Else-bad
 
 pub offset_bounds-words-i-in-Received : goal.offset_bounds-words-i-in-Received
 offset_bounds-words-i-in-Received c =
-    let s = c in
-    omega (arith, (number (goal.at.offset_bounds-words-i-in-Received s).After-named-name s.in-Received.is).1)
+    omega (arith, (number (goal.at.offset_bounds-words-i-in-Received c).After-named-name c.in-Received.is).1)
 
 pub bounds-words-i-in-Received : goal.bounds-words-i-in-Received
 bounds-words-i-in-Received c =
-    let s = c in
-    (number (goal.at.bounds-words-i-in-Received s).After-named-name s.in-Received.is).1
+    (number (goal.at.bounds-words-i-in-Received c).After-named-name c.in-Received.is).1
 
 pub returns-in-Control : goal.returns-in-Control
 returns-in-Control c =
-    let s = c in
-    let a = s.args in
-    let n = number (goal.at.returns-in-Control s).After-named-name c.in-Control.is in
-    rw (c.control-value.ensures, n) (sym (read_done a.self 0 (fine (goal.at.returns-in-Control s).Else-bad) refl))
+    let a = c.args in
+    let n = number (goal.at.returns-in-Control c).After-named-name c.in-Control.is in
+    rw (c.control-value.ensures, n) (sym (read_done a.self 0 (fine (goal.at.returns-in-Control c).Else-bad) refl))
 
 pub returns-in-Message : goal.returns-in-Message
 returns-in-Message c =
-    let m = c in
-    let s = m in
-    let a = s.args in
-    let n = number (goal.at.returns-in-Message s).After-named-name m.in-Message.is in
-    rw n.0 (sym (read_message a.self m.in-Message.i (fine (goal.at.returns-in-Message s).Else-bad) n.1))
+    let a = c.args in
+    let n = number (goal.at.returns-in-Message c).After-named-name c.in-Message.is in
+    rw n.0 (sym (read_message a.self c.in-Message.i (fine (goal.at.returns-in-Message c).Else-bad) n.1))
 
 pub returns-in-Status : goal.returns-in-Status
 returns-in-Status c =
-    let s = c in
-    let a = s.args in
-    let n = number (goal.at.returns-in-Status s).After-named-name c.in-Status.is in
-    rw (c.status-value.ensures, n) (sym (read_done a.self 9 (fine (goal.at.returns-in-Status s).Else-bad) refl))
+    let a = c.args in
+    let n = number (goal.at.returns-in-Status c).After-named-name c.in-Status.is in
+    rw (c.status-value.ensures, n) (sym (read_done a.self 9 (fine (goal.at.returns-in-Status c).Else-bad) refl))
 
 pub returns-in-Received : goal.returns-in-Received
 returns-in-Received c =
-    let m = c in
-    let s = m in
-    let a = s.args in
-    let n = number (goal.at.returns-in-Received s).After-named-name m.in-Received.is in
+    let a = c.args in
+    let n = number (goal.at.returns-in-Received c).After-named-name c.in-Received.is in
     rw (c.emptied-end.ensures, n.0)
-    (sym (read_received a.self m.in-Received.i (fine (goal.at.returns-in-Received s).Else-bad) n.1))
+    (sym (read_received a.self c.in-Received.i (fine (goal.at.returns-in-Received c).Else-bad) n.1))
 
 pub returns-in-Outside : goal.returns-in-Outside
 returns-in-Outside c =
-    let s = c in
-    let a = s.args in
-    let n = number (goal.at.returns-in-Outside s).After-named-name c.in-Outside.is in
-    sym (read_outside a.self a.word (fine (goal.at.returns-in-Outside s).Else-bad) n)
+    let a = c.args in
+    let n = number (goal.at.returns-in-Outside c).After-named-name c.in-Outside.is in
+    sym (read_outside a.self a.word (fine (goal.at.returns-in-Outside c).Else-bad) n)

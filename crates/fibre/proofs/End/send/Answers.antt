@@ -7,11 +7,9 @@ use Rattle.fibre.proofs.End.send.Goals as goal
 pub returns-then-bad : goal.returns-then-bad
 unfolding send_of
 returns-then-bad c =
-    let s = c in
-    rw c.no_block-block.ensures (sym (cond_true _ _ (hence s.bad.ensures s.if-bad.true)))
+    rw c.no_block-block.ensures (sym (cond_true _ _ (hence c.bad.ensures c.if-bad.true)))
 
 pub returns : goal.returns
 unfolding send_of
 returns c =
-    let s = c in
-    rw c.loaded-next.ensures (sym (cond_false _ _ (hence s.bad.ensures s.if-bad.false)))
+    rw c.loaded-next.ensures (sym (cond_false _ _ (hence c.bad.ensures c.if-bad.false)))

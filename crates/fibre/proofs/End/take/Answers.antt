@@ -13,14 +13,12 @@ fine : (c : Else-bad-block)
     → (bad c.args.self || ltb largest c.args.block.control)
     ≡ false
 fine c =
-    let s = c in
-    hence (ap (λ (b : Bool). b || ltb largest s.args.block.control) s.bad.ensures) c.if-bad-block.false
+    hence (ap (λ (b : Bool). b || ltb largest c.args.block.control) c.bad.ensures) c.if-bad-block.false
 
 pub returns-then-bad-block : goal.returns-then-bad-block
 unfolding take_of
 returns-then-bad-block c =
-    let s = c in
-    let test = ap (λ (b : Bool). b || ltb largest s.args.block.control) s.bad.ensures in
+    let test = ap (λ (b : Bool). b || ltb largest c.args.block.control) c.bad.ensures in
     sym (cond_true _ _ (hence test c.if-bad-block.true))
 
 pub returns-then-marked : goal.returns-then-marked
@@ -30,6 +28,5 @@ returns-then-marked c = sym (cond_false _ _ (fine (goal.at.returns-then-marked c
 pub returns : goal.returns
 unfolding take_of
 returns c =
-    let s = c in
     rw (c.stored-end.ensures, c.heard-listening.ensures)
-    (sym (cond_false _ _ (fine (goal.at.returns s).Else-bad-block) ∙ cond_false _ _ s.if-marked.false))
+    (sym (cond_false _ _ (fine (goal.at.returns c).Else-bad-block) ∙ cond_false _ _ c.if-marked.false))

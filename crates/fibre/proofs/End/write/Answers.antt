@@ -28,36 +28,29 @@ with_word-stored-requires c = (number (goal.at.with_word-stored-requires c).Afte
 pub returns-in-Control : goal.returns-in-Control
 unfolding write_of
 returns-in-Control c =
-    let m = c in
-    let s = m in
-    rw (c.unless_requested.ensures, c.with_control-stored.ensures, number (goal.at.returns-in-Control s).After-named-name m.in-Control.is)
-    (sym (cond_false _ _ (fine (goal.at.returns-in-Control s).Else-bad)))
+    rw (c.unless_requested.ensures, c.with_control-stored.ensures, number (goal.at.returns-in-Control c).After-named-name c.in-Control.is)
+    (sym (cond_false _ _ (fine (goal.at.returns-in-Control c).Else-bad)))
 
 pub returns-in-Message : goal.returns-in-Message
 returns-in-Message c =
-    let m = c in
-    let s = m in
-    let a = s.args in
-    let n = number (goal.at.returns-in-Message s).After-named-name m.in-Message.is in
+    let a = c.args in
+    let n = number (goal.at.returns-in-Message c).After-named-name c.in-Message.is in
     rw (c.unless_requested-in-Message.ensures, c.with_word-stored.ensures, n.0)
-    (sym (write_message a.self m.in-Message.i a.value (fine (goal.at.returns-in-Message s).Else-bad) n.1))
+    (sym (write_message a.self c.in-Message.i a.value (fine (goal.at.returns-in-Message c).Else-bad) n.1))
 
 pub returns-in-Status : goal.returns-in-Status
 returns-in-Status c =
-    let s = c in
-    let a = s.args in
-    let n = number (goal.at.returns-in-Status s).After-named-name c.in-Status.is in
-    rw n (sym (write_only a.self 9 a.value (fine (goal.at.returns-in-Status s).Else-bad) refl refl))
+    let a = c.args in
+    let n = number (goal.at.returns-in-Status c).After-named-name c.in-Status.is in
+    rw n (sym (write_only a.self 9 a.value (fine (goal.at.returns-in-Status c).Else-bad) refl refl))
 
 pub returns-in-Received : goal.returns-in-Received
 returns-in-Received c =
-    let s = c in
-    let a = s.args in
-    let n = number (goal.at.returns-in-Received s).After-named-name c.in-Received.is in
-    rw n.0 (sym (write_received a.self c.in-Received.field-0 a.value (fine (goal.at.returns-in-Received s).Else-bad) n.1))
+    let a = c.args in
+    let n = number (goal.at.returns-in-Received c).After-named-name c.in-Received.is in
+    rw n.0 (sym (write_received a.self c.in-Received.field-0 a.value (fine (goal.at.returns-in-Received c).Else-bad) n.1))
 
 pub returns-in-Outside : goal.returns-in-Outside
 returns-in-Outside c =
-    let s = c in
-    let a = s.args in
-    sym (write_outside a.self a.word a.value (fine (goal.at.returns-in-Outside s).Else-bad) (number (goal.at.returns-in-Outside s).After-named-name c.in-Outside.is))
+    let a = c.args in
+    sym (write_outside a.self a.word a.value (fine (goal.at.returns-in-Outside c).Else-bad) (number (goal.at.returns-in-Outside c).After-named-name c.in-Outside.is))

@@ -7,8 +7,7 @@ use Rattle.fibre.proofs.sending.loaded.Goals as goal
 
 pub returns-then-loads : goal.returns-then-loads
 returns-then-loads c =
-    let t = c in
-    ap (λ (b : Bool). loaded b t.args.end) (sym (hence t.loads.ensures t.if-loads.true))
+    ap (λ (b : Bool). loaded b c.args.end) (sym (hence c.loads.ensures c.if-loads.true))
 
 pub returns : goal.returns
 returns c =

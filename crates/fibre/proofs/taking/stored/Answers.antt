@@ -7,9 +7,8 @@ use Rattle.fibre.proofs.taking.stored.Goals as goal
 
 pub returns-then-enters : goal.returns-then-enters
 returns-then-enters c =
-    let t = c in
-    let a = t.args in
-    ap (λ (b : Bool). stored b a.block a.end) (sym (hence t.enters.ensures t.if-enters.true))
+    let a = c.args in
+    ap (λ (b : Bool). stored b a.block a.end) (sym (hence c.enters.ensures c.if-enters.true))
 
 pub returns : goal.returns
 returns c =

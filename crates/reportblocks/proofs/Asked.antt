@@ -2,7 +2,7 @@
 --   stands_one     the part block and the turn after any messages are one thing
 --   asked-*        any number of messages, with any numbers; any 128 bytes; any number of blocks
 -- Assumes nothing.
-use Prim.Native.Nat.{ℕ, zero, suc, ◌+◌, ◌-◌, ◌*◌, ◌≤◌, ◌<◌}
+use Prim.Native.Nat.{ℕ, zero, suc, ◌+◌, ◌-◌, ◌*◌, ◌≤◌}
 use mathlib.Core.Bool.{Bool, true, false}
 use mathlib.Core.List.{List, [], ◌∷◌, ◌++◌}
 use mathlib.Core.Path.{◌≡◌, refl, sym, ap, ap₂, ◌∙◌}
@@ -11,7 +11,6 @@ use lib.Dec.{eqb}
 use lib.ListN.{length, get_or, drop, replicate, length-append}
 use lib.Seq.{drop_at}
 use borrow.Author.Tests.{eqb-true, eqb-false}
-use Rattle.laws.specs.Above.{above}
 use Rattle.laws.proofs.AboveLaws.{above_from}
 use Rattle.end.specs.Message.{Message}
 use Rattle.report.specs.declared.TakingHost.{TakingHost}

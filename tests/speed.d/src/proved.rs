@@ -1,4 +1,4 @@
-//! The proved calls, of the crate `speed` (`rt staticlib speed`).
+//! The proved calls, of the static library `speed`, which `tests/speed.d/archive` builds.
 
 use crate::{Calls, Finds};
 

@@ -86,9 +86,8 @@ pub fn call_on(
     requires from_in_bounds { from ≤ length line.now }
     requires room { Room at out.old }
     ensures at_in_bounds { result.at ≤ length out.new }
-    ensures* fact { do
-      n ← (⟦symbols.len()⟧).entry
-      ⌜ (result.end ≡ end_after call host end) × (result.host ≡ host_after call host end (listed n line.now from)) ⌝ }
+    ensures fact { (result.end ≡ end_after call host end)
+        × (result.host ≡ host_after call host end (listed (length symbols.old) line.now from)) }
 {
     match call {
         HostCall::Offer => offer(end, host, line, from, symbols, out, at),
@@ -114,9 +113,7 @@ fn offer(
     requires from_in_bounds { from ≤ length line.now }
     requires room { Room at out.old }
     ensures at_in_bounds { result.at ≤ length out.new }
-    ensures* fact { do
-      n ← (⟦symbols.len()⟧).entry
-      ⌜ (result.end ≡ end) × (result.host ≡ offered_by host (listed n line.now from)) ⌝ }
+    ensures fact { (result.end ≡ end) × (result.host ≡ offered_by host (listed (length symbols.old) line.now from)) }
 {
     let after = past_word(line, from);
     match read(line, after, BYTE, symbols) {

@@ -86,7 +86,7 @@ pub fn call_on(
     requires from_in_bounds { from ≤ length line.now }
     requires room { Room at out.old }
     ensures at_in_bounds { result.at ≤ length out.new }
-    ensures end_and_host { (result.end ≡ end_after call host end)
+    ensures fact { (result.end ≡ end_after call host end)
         × (result.host ≡ host_after call host end (listed (length symbols.old) line.now from)) }
 {
     match call {
@@ -113,7 +113,7 @@ fn offer(
     requires from_in_bounds { from ≤ length line.now }
     requires room { Room at out.old }
     ensures at_in_bounds { result.at ≤ length out.new }
-    ensures end_and_host { (result.end ≡ end) × (result.host ≡ offered_by host (listed (length symbols.old) line.now from)) }
+    ensures fact { (result.end ≡ end) × (result.host ≡ offered_by host (listed (length symbols.old) line.now from)) }
 {
     let after = past_word(line, from);
     match read(line, after, BYTE, symbols) {

@@ -18,7 +18,7 @@ use Rattle.end.specs.Registers.{read_of}
 use Rattle.answer.specs.declared.Answer.{Answer}
 use Rattle.answer.specs.declared.Answer.TheVariants.{Done}
 use Rattle.answer.specs.Number.{number_of}
-use Rattle.link.specs.Link.{Side, write}
+use Rattle.link.specs.Link.{Side}
 use Rattle.report.specs.declared.SendingHost.{SendingHost}
 use Rattle.report.specs.declared.Pushed.{Pushed}
 use Rattle.report.specs.declared.Pulled.{Pulled}

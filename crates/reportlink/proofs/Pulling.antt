@@ -4,7 +4,7 @@
 --   all-*, one-*     what five reads, and 3.2313 alone, leave of the host and of the end; they are by the rule
 --   pull_took, pull_none   the step where 3.2313 says that a message is there, and where it does not
 -- Assumes nothing.
-use Prim.Native.Nat.{ℕ, ◌+◌, ◌/◌, ◌%◌}
+use Prim.Native.Nat.{ℕ, ◌/◌, ◌%◌}
 use mathlib.Core.Bool.{Bool, true, false, ◌&&◌, true≢false}
 use mathlib.Core.List.{List, [], ◌∷◌, ◌++◌, map}
 use mathlib.Core.Path.{◌≡◌, refl, ◌∙◌}

@@ -18,10 +18,8 @@ returns-in-Out c =
 
 pub returns-in-Whole : goal.returns-in-Whole
 returns-in-Whole c =
-    let digits = c in
-    let text = digits in
-    let s = text.args in
+    let s = c.args in
     let front = take s.at s.out.now in
-    let word = chained _ _ front _ _ text.text-word.ensures.out_after digits.digits-put.ensures.out_after in
+    let word = chained _ _ front _ _ c.text-word.ensures.out_after c.digits-put.ensures.out_after in
     let line = chained _ _ front _ (10 ∷ []) word c.byte.ensures.out_after in
-    record { upper_bound = omega arith; out_after = rw text.in-Whole.is line }
+    record { upper_bound = omega arith; out_after = rw c.in-Whole.is line }

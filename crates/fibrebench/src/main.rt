@@ -5,10 +5,17 @@
 mod serve;
 mod session;
 
-fn main() {
+fn main(rt: HostRuntime) {
     let mut text = [0u8; console::HELD];
     let mut out = [0u8; console::GATHERED];
     let mut to_a = [0u16; fibrelines::LINE];
     let mut to_b = [0u16; fibrelines::LINE];
-    serve::serve(&mut text, &mut out, &mut to_a, &mut to_b);
+    serve::serve(
+        rt.stdin(),
+        rt.stdout(),
+        &mut text,
+        &mut out,
+        &mut to_a,
+        &mut to_b,
+    );
 }

@@ -5,6 +5,7 @@ ghost use Rattle.console.specs.Ready.{turn_room, Ready};
 use crate::session;
 use console::Console;
 use fibrelines::{LINE, Link};
+use std::io::{Stdin, Stdout};
 
 // The link and the console after a line, and whether all is over.
 #[derive(Clone, Copy)]
@@ -16,14 +17,21 @@ pub struct After {
 
 // Answers line after line until the input ends. A proved loop has to end, so it counts its turns down from a number
 // that no run uses up.
-pub fn serve(text: &mut [u8], out: &mut [u8], to_a: &mut [u16; LINE], to_b: &mut [u16; LINE])
+pub fn serve(
+    stdin: Stdin,
+    stdout: Stdout,
+    text: &mut [u8],
+    out: &mut [u8],
+    to_a: &mut [u16; LINE],
+    to_b: &mut [u16; LINE],
+)
     requires { turn_room ≤ length out.old }
 {
     let mut link = fibrelines::start(0, 0);
     let mut console = console::start();
     let mut turns = u64::MAX;
     while turns > 0 {
-        let after = turn(text, out, to_a, to_b, link, console);
+        let after = turn(stdin, stdout, text, out, to_a, to_b, link, console);
         if after.over {
             return;
         }
@@ -35,6 +43,8 @@ pub fn serve(text: &mut [u8], out: &mut [u8], to_a: &mut [u16; LINE], to_b: &mut
 
 // The next line is answered.
 fn turn(
+    stdin: Stdin,
+    stdout: Stdout,
     text: &mut [u8],
     out: &mut [u8],
     to_a: &mut [u16; LINE],
@@ -45,7 +55,7 @@ fn turn(
     requires { Ready before text.old out.old }
     ensures { Ready result.console text.new out.new }
 {
-    let next = console::next(text, out, before);
+    let next = console::next(stdin, stdout, text, out, before);
     let start = next.start;
     let stop = next.stop;
     let mut console = next.console;

@@ -9,11 +9,6 @@ use std::process::{Command, Stdio};
 const FOLDER: &str = "SIMHADOL_C";
 const DEFAULT_FOLDER: &str = "../target/c";
 
-/// Valgrind runs programs of its own processor only, and those of `tests/c/build` are for this one.
-pub fn has_valgrind() -> bool {
-    env::consts::ARCH == "x86_64"
-}
-
 /// What runs a program, its input and outputs in our hands. It may be given words.
 pub fn program(name: &str) -> Command {
     let mut command = Command::new(package().join("c/run"));

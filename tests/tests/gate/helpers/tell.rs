@@ -17,6 +17,6 @@ pub fn tell(name: &str, count: usize, what: &str, start: Instant) {
 }
 
 /// Writes to the stream itself, as the test runner keeps back what is printed.
-pub fn say(line: &str) {
+fn say(line: &str) {
     std::io::stderr().write_all(format!("{}\n", line).as_bytes()).expect("standard error takes a line");
 }

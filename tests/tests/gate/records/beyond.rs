@@ -2,20 +2,15 @@
 
 use crate::helpers::areas::{driver, every_length};
 use crate::helpers::random_calls::{every_answer_was_given, every_reason_was_given, some_random_calls};
-use crate::helpers::tell::{say, seed, tell};
+use crate::helpers::tell::{seed, tell};
 use crate::helpers::upgrades::every_pair_of_lengths;
-use second::programs::{has_valgrind, under_valgrind};
+use second::programs::under_valgrind;
 use std::process::Command;
 use std::time::Instant;
 
 /// Under valgrind, which sees every byte beyond the area that is read or written.
 #[test]
 fn no_byte_beyond_by_valgrind() {
-    if !has_valgrind() {
-        say("records, valgrind: NOT RUN, it can't run x86-64 programs on this processor; the same calls are made on");
-        say("areas between pages that can't be read or written (records, page-before and page-after)");
-        return;
-    }
     hold_beyond("valgrind", || {
         let mut driver = under_valgrind("driver");
         driver.arg("heap");

@@ -12,9 +12,9 @@ const DECLARED: [&str; 2] = ["end/src/lib.rt", "receiver/src/lib.rt"];
 
 /// All that may be imported from crate `end`.
 const TYPES: [&str; 3] = ["End", "Next", "Read"];
-const DEFINITIONS: [&str; 2] = ["readOf", "writeOf"];
-const REGISTERS: &str = "Rattle·end.specs.Registers";
-const MESSAGE: &str = "Rattle·end.specs.Message.{Message}";
+const DEFINITIONS: [&str; 2] = ["read_of", "write_of"];
+const REGISTERS: &str = "Rattle.end.specs.Registers";
+const MESSAGE: &str = "Rattle.end.specs.Message.{Message}";
 
 /// The crates that keep to the promise, with what each of their rooms has.
 const ROOMS: [(&str, &str, &str); 7] = [
@@ -60,7 +60,7 @@ fn fields_of(name: &str, sources: &str) -> Vec<(String, String)> {
 
 /// A character that a name can have, in code or in a statement.
 fn is_of_a_name(character: char) -> bool {
-    character.is_alphanumeric() || "_-·'".contains(character)
+    character.is_alphanumeric() || "_-'".contains(character)
 }
 
 /// The places behind each occurrence of `what`, where neither end of it goes on as a name.
@@ -100,12 +100,8 @@ fn builds_an_end(text: &str) -> Option<String> {
 
 /// Every mention of the crates that declare `End` must be an import, and one of those that are allowed.
 fn imports(text: &str) -> Option<String> {
-    let mentions = |line: &&str| {
-        ["end::", "receiver::"].iter().any(|path| behind(line, path).next().is_some())
-            || ["Rattle·end.", "Rattle·end·", "Rattle·receiver.", "Rattle·receiver·"]
-                .iter()
-                .any(|path| line.contains(path))
-    };
+    let paths = ["end::", "receiver::", "Rattle.end", "Rattle.receiver"];
+    let mentions = |line: &&str| paths.iter().any(|path| behind(line, path).next().is_some());
     text.lines().filter(mentions).find(|line| !is_allowed(line)).map(|line| format!("has the line {:?}", line))
 }
 
@@ -116,29 +112,32 @@ fn is_allowed(line: &str) -> bool {
         None => return false,
         Some(path) => path,
     };
-    let of_a_type = |name: &&str| {
-        path == format!("end::{}", name) || path == format!("Rattle·end.specs.declared.{}.{{{}}}", name, name)
+    let all_of = |from: &str, allowed: &[&str]| {
+        let names = path.strip_prefix(from).and_then(|names| names.strip_prefix('{')?.strip_suffix('}'));
+        names.map_or(false, |names| names.split(", ").all(|name| allowed.contains(&name)))
     };
-    let definitions = path.strip_prefix(REGISTERS).and_then(|names| names.strip_prefix(".{")?.strip_suffix('}'));
+    let of_a_type = |name: &&str| {
+        path == format!("end::{}", name) || path == format!("Rattle.end.specs.declared.{}.{{{}}}", name, name)
+    };
     TYPES.iter().any(of_a_type)
         || path == MESSAGE
-        || definitions.map_or(false, |names| names.split(", ").all(|name| DEFINITIONS.contains(&name)))
+        || all_of("end::", &TYPES)
+        || all_of(&format!("{}.", REGISTERS), &DEFINITIONS)
 }
 
-/// A list of names to unfold goes on in the lines that are indented below it.
+/// A list of names to unfold goes on in the lines that are indented below it; in an attribute it stands in parentheses.
 fn unfolds(text: &str) -> Option<String> {
     let indent = |line: &str| line.len() - line.trim_start().len();
     let lines: Vec<&str> = text.lines().collect();
+    let mut names = Vec::new();
     for (place, first) in lines.iter().enumerate() {
         if first.trim_start().starts_with("unfolding") {
             let more = lines[place + 1..].iter().take_while(|line| indent(line) > indent(first));
-            let mut names = names_in(first).chain(more.flat_map(|line| names_in(line)));
-            if let Some(name) = names.find(|name| DEFINITIONS.contains(name)) {
-                return Some(format!("unfolds {}", name));
-            }
+            names.extend(names_in(first).chain(more.flat_map(|line| names_in(line))));
         }
     }
-    None
+    names.extend(behind(text, "unfolding(").filter_map(|after| after.split(')').next()).flat_map(names_in));
+    names.into_iter().find(|name| DEFINITIONS.contains(name)).map(|name| format!("unfolds {}", name))
 }
 
 fn crates() -> PathBuf {
@@ -198,47 +197,50 @@ fn others_see_more() {
 fn told_from_what_is_allowed() {
     let fields = fields();
     let good = [
-        "use end::End;\nuse end::Next;\nuse end::Read;\n",
-        "ghost use Rattle·end.specs.Registers.{readOf, writeOf};\nghost use Rattle·end.specs.declared.End.{End};\n",
-        "use Rattle·end.specs.declared.Next.{Next}\nuse Rattle·end.specs.declared.Read.{Read}\n",
-        "use Rattle·end.specs.Message.{Message}\n",
-        "use Rattle·end.specs.Registers.{writeOf}\nuse Rattle·endlaws.specs.Presence.{leftBy}\n",
-        "let next = host.push(end).end;\nlet bytes = read.value;\nr .end\nc .before .end .ensures\n",
-        "x .number\nself.block[8 * n]\nlet sender = self;\nr .sending .bytes\nend.write(2309, value)\n",
-        "-- the sender's outbox. sender\nunfolding pushOf\n  offerOf\npush e = writeOf e 2309 0\n",
+        "use end::End;\nuse end::{End, Next};\nuse end::{Read};\n",
+        "ghost use Rattle.end.specs.Registers.{read_of, write_of};\nghost use Rattle.end.specs.declared.End.{End};\n",
+        "use Rattle.end.specs.declared.Next.{Next}\nuse Rattle.end.specs.declared.Read.{Read}\n",
+        "use Rattle.end.specs.Message.{Message}\n",
+        "use Rattle.end.specs.Registers.{write_of}\nuse Rattle.endlaws.specs.Presence.{left_by}\n",
+        "let next = host.push(end).end;\nlet bytes = read.value;\nr.end\nc.before.end.ensures\n",
+        "x.number\nself.block[8 * n]\nlet sender = self;\nr.sending.bytes\nend.write(2309, value)\n",
+        "-- the sender's outbox. sender\nunfolding push_of\n  offer_of\npush e = write_of e 2309 0\n",
         "pub fn push(self, end: End) -> Pushed\n{\n    self\n}\n",
     ];
     for text in good {
         assert_eq!(breaks(text, &fields), None, "{}", text);
     }
     let bad = [
-        "e .outbox .pending\n",
+        "e.outbox.pending\n",
         "let outbox = end.outbox;\n",
-        "e .inbox\n",
-        "(r .end) .presence\n",
+        "e.inbox\n",
+        "(r.end).presence\n",
         "self.end.counts.crc\n",
-        "x .sender)\n",
+        "x.sender)\n",
         "end .pending\n",
-        "r .end .full ≡ true\n",
+        "r.end.full ≡ true\n",
         "let End { presence, .. } = end;\n",
         "End {\n    sender,\n}\n",
         "use end::Outbox;\n",
         "use end::End as Whole;\n",
+        "use end::{End, Outbox};\n",
         "let next = end::reading::control(x);\n",
         "use receiver::Inbox;\n",
-        "use Rattle·end.specs.declared.Outbox.{Outbox}\n",
-        "use Rattle·end.specs.declared.End.{End, the-fields}\n",
-        "use Rattle·end.specs.Registers.{readOf, written}\n",
-        "use Rattle·end.specs.Registers.{}\n",
-        "use Rattle·end.specs.Parts.{withOutbox}\n",
-        "use Rattle·end.specs.Message.{Message, messageIn}\n",
-        "use Rattle·end.proofs.RegisterLaws.{write-done}\n",
-        "use Rattle·end.specs.Registers as registers\n",
-        "use Rattle·receiver.specs.declared.Inbox.{Inbox}\n",
-        "push e = Rattle·end.specs.Good.bad e\n",
-        "unfolding readOf\n",
-        "push-law : Law\nunfolding pushOf above\n    bad writeOf\npush-law = refl\n",
-        "  where\n  unfolding pushOf writeOf\n  push-law = refl\n",
+        "use Rattle.end.specs.declared.Outbox.{Outbox}\n",
+        "use Rattle.end.specs.declared.End.{End, the_fields}\n",
+        "use Rattle.end.specs.Registers.{read_of, written}\n",
+        "use Rattle.end.specs.Registers.{}\n",
+        "use Rattle.end.specs.Parts.{with_outbox}\n",
+        "use Rattle.end.specs.Message.{Message, message_in}\n",
+        "use Rattle.end.proofs.RegisterLaws.{write_done}\n",
+        "use Rattle.end.specs.Registers as registers\n",
+        "use Rattle.end as whole\n",
+        "use Rattle.receiver.specs.declared.Inbox.{Inbox}\n",
+        "push e = Rattle.end.specs.Good.bad e\n",
+        "unfolding read_of\n",
+        "#[tactic(auto, unfolding(crate::specs::Sending::push_of, read_of))]\n",
+        "push_law : Law\nunfolding push_of above\n    bad write_of\npush_law = refl\n",
+        "  where\n  unfolding push_of write_of\n  push_law = refl\n",
     ];
     for text in bad {
         assert!(breaks(text, &fields).is_some(), "{}", text);

@@ -1,3 +1,4 @@
 pub mod FinderLaws
 pub mod SearchLaws
+pub mod FaultLaws
 pub mod Identical

@@ -161,20 +161,13 @@ module _ (l : List ℕ) (at : ℕ) (h : at + 12 ≤ length l) (s : List ℕ) whe
             let v = eqb-false i k q in
             none_behind (suc k) m i (omega arith) (omega arith) b
 
-    fault_next : RuledOut l at (ruled_out (get_or l (at + k) 0) k)
+    pub fault_next : RuledOut l at (ruled_out (get_or l (at + k) 0) k)
     fault_next = go (marked (get_or l (at + k) 0)) (eqb k 0) refl refl
       where
         go : (x y : Bool) → marked (get_or l (at + k) 0) ≡ x → eqb k 0 ≡ y → RuledOut l at (cond x 12 (cond y 12 k))
         go true y p q = none_at_all (sym (right_marked 0 (get_or l (at + k) 0) (leb-true 512 (get_or l (at + k) 0) p)))
         go false true p q = none_at_all (ap (λ (j : ℕ). right_at j (get_or l (at + k) 0)) (sym (eqb-true k 0 q)) ∙ f)
         go false false p q = let v = eqb-false k 0 q in (none_through, omega arith, omega arith)
-
-  pub fault_rules_out : (left : ℕ) → 0 < left → left ≤ 12 → Matching (window l at) s left
-      → right_at (left - 1) (get_or l (at + (left - 1)) 0) ≡ false
-      → (n : ℕ) → n ≡ ruled_out (get_or l (at + (left - 1)) 0) (left - 1) → RuledOut l at n
-  fault_rules_out left p g m f n e =
-      let last : left ≡ suc (left - 1) = omega arith in
-      rw e (fault_next (left - 1) (omega arith) (subst (Matching (window l at) s) last m) f)
 
   -- twelve symbols that may stand where they do: the CRC decides
   pub passes_crc : (left : ℕ) (b : Bool) → left ≤ 0 → Matching (window l at) s left → crc_right s ≡ b → passes l at ≡ b

@@ -1,4 +1,5 @@
 pub mod WordLaws
+pub mod QuickLaws
 pub mod FrameLaws
 pub mod AcceptLaws
 pub mod DistanceLaws

@@ -1,6 +1,5 @@
--- The code's three words (`words.rt`) give the CRC. What the code does to numbers is written again on lists of bits
--- (`quick`). That is linear, and on each of the eighty messages with a single one it is the CRC, by computation
--- (`quick_single`); so it is the CRC (`crc_same` of LinearLaws). And the code's numbers have those bits.
+-- What the code does to its three words (`words.rt`), written again on lists of bits (`quick`). That is linear, and the
+-- code's numbers have those bits. QuickLaws shows that it is the CRC.
 --   shl n k       n moved up by k places in sixty-four bits, as the code does
 --   forty, thirty, sixteen, remainder   the code's numbers of those names
 --   forty_of, thirty_of, sixteen_of, folded  the same on lists of bits
@@ -11,22 +10,20 @@
 use Prim.Native.Nat.{ℕ, zero, suc, ◌+◌, ◌*◌, ◌/◌, ◌%◌, ◌^◌, ◌<◌}
 use native.Mathlib.Nat.{mod-eq_of_lt, mod-lt, mul-one}
 use native.Mathlib.Omega.{arith}
-use mathlib.Core.Bool.{Bool, true, false, cond, xor}
+use mathlib.Core.Bool.{Bool, false, xor}
 use mathlib.Core.List.{List, [], ◌∷◌, ◌++◌, append_assoc, append-nil}
 use mathlib.Core.Path.{◌≡◌, refl, ap, ap₂, sym, ◌∙◌}
 use lib.Bits.{bit_xor}
-use lib.Dec.{lit<, lit≤}
+use lib.Dec.{lit≤}
 use lib.ListN.{length, get_or, take, drop, replicate, length-append, drop_of_length-le}
 use lib.Pow.{pow_pos}
 use lib.Seq.{take_at, drop_at, drop-cons}
-use Rattle.crc.specs.Bits.{odd, bits, number, odd_ones}
-use Rattle.crc.specs.Crc.{plus, times, shift, run, crc}
+use Rattle.crc.specs.Bits.{bits, number, odd_ones}
+use Rattle.crc.specs.Crc.{plus, crc}
 use Rattle.frame.specs.Frame.{generator, stream, crc_of}
 use Rattle.crc.proofs.BitsLaws.{xor_assoc, bits_length, number_bits, bits_append, bits_part, bits_mod, bits_mod_more}
 use Rattle.crc.proofs.BitsLaws.{bits_above, bits_up, bits_xor, odd_ones_append, odd_ones_above, odd_ones_xor}
-use Rattle.crc.proofs.CrcLaws.{plus_zeros, times_false, times_true}
 use Rattle.crc.proofs.LinearLaws.{Linear, linear_then, copy, linear_copy, linear_and, with_parity, linear_parity}
-use Rattle.crc.proofs.LinearLaws.{agree, crc_same}
 
 abbrev shl : ℕ → ℕ → ℕ
 shl n k = (n * 2 ^ k) % 2 ^ 64
@@ -71,16 +68,16 @@ xor_bits w m n e d = bits_xor w m n ∙ ap₂ plus e d
 
 -- ---------------------------------------------------------------- the code's three sums, and the same on lists
 
-abbrev forty : ℕ → ℕ → ℕ → ℕ
+abbrev pub forty : ℕ → ℕ → ℕ → ℕ
 forty a b c = bit_xor (bit_xor (bit_xor (bit_xor (bit_xor a (shl a 4)) (shl b 4)) (shl b 6)) (shl c 22)) (shl c 23)
 
-abbrev thirty : ℕ → ℕ
+abbrev pub thirty : ℕ → ℕ
 thirty n = bit_xor (bit_xor (n / 1024) (shl (n % 1024) 20)) (shl (n % 1024) 18)
 
-abbrev sixteen : ℕ → ℕ
+abbrev pub sixteen : ℕ → ℕ
 sixteen n = bit_xor (bit_xor (n % 32768) (shl (n % 32768) 1)) (shl (n / 32768) 1)
 
-unfoldable forty_of : List Bool → List Bool
+unfoldable pub forty_of : List Bool → List Bool
 forty_of s =
     plus
     (plus
@@ -88,23 +85,23 @@ forty_of s =
     (copy 64 16 22 2 s))
     (copy 64 16 23 1 s)
 
-unfoldable thirty_of : List Bool → List Bool
+unfoldable pub thirty_of : List Bool → List Bool
 thirty_of s = plus (plus (copy 10 30 0 0 s) (copy 0 10 20 0 s)) (copy 0 10 18 2 s)
 
-unfoldable sixteen_of : List Bool → List Bool
+unfoldable pub sixteen_of : List Bool → List Bool
 sixteen_of s = plus (plus (copy 0 15 0 1 s) (copy 0 15 1 0 s)) (copy 15 15 1 0 s)
 
 -- x^15 + x + 1
-abbrev FACTOR : ℕ
+abbrev pub FACTOR : ℕ
 FACTOR = 0xC001
 
-abbrev factor : List Bool
+abbrev pub factor : List Bool
 factor = bits 16 FACTOR
 
-abbrev folded : List Bool → List Bool
+abbrev pub folded : List Bool → List Bool
 folded s = sixteen_of (thirty_of (forty_of s))
 
-abbrev quick : List Bool → List Bool
+abbrev pub quick : List Bool → List Bool
 quick s = with_parity (odd_ones s) factor (folded s)
 
 forty_linear : Linear 80 40 forty_of
@@ -125,27 +122,19 @@ unfolding sixteen_of
 sixteen_linear =
     linear_and 30 _ 15 15 1 0 (lit≤ tt) (linear_and 30 _ 0 15 1 0 (lit≤ tt) (linear_copy 30 0 15 0 1 (lit≤ tt)))
 
-quick_linear : Linear 80 16 quick
+pub quick_linear : Linear 80 16 quick
 unfolding bits
 quick_linear =
     linear_parity 80 factor folded
     (linear_then 80 30 16 (λ (s : List Bool). thirty_of (forty_of s)) sixteen_of
     (linear_then 80 40 30 forty_of thirty_of forty_linear thirty_linear) sixteen_linear)
 
-quick_single : agree 80 quick (crc generator) ≡ true
-unfolding forty_of thirty_of sixteen_of copy with_parity agree generator odd bits number odd_ones plus times shift run crc
-quick_single = refl
-
-quick_crc : (s : List Bool) → length s ≡ 80 → quick s ≡ crc generator s
-unfolding generator
-quick_crc = crc_same generator 80 quick quick_linear quick_single
-
 -- ---------------------------------------------------------------- the code's numbers have those bits
 
-abbrev message : ℕ → ℕ → ℕ → List Bool
+abbrev pub message : ℕ → ℕ → ℕ → List Bool
 message a b c = bits 32 a ++ (bits 32 b ++ bits 16 c)
 
-message_length : (a b c : ℕ) → length (message a b c) ≡ 80
+pub message_length : (a b c : ℕ) → length (message a b c) ≡ 80
 message_length a b c =
     length-append (bits 32 a) (bits 32 b ++ bits 16 c)
     ∙ ap₂ ◌+◌ (bits_length 32 a)
@@ -209,10 +198,10 @@ sixteen_bits n =
 
 -- ---------------------------------------------------------------- the CRC of three words
 
-abbrev remainder : ℕ → ℕ → ℕ → ℕ
+abbrev pub remainder : ℕ → ℕ → ℕ → ℕ
 remainder a b c = sixteen (thirty (forty a b c)) % 65536
 
-remainder_bits : (a b c : ℕ) → a < 2 ^ 32 → b < 2 ^ 32 → c < 2 ^ 16
+pub remainder_bits : (a b c : ℕ) → a < 2 ^ 32 → b < 2 ^ 32 → c < 2 ^ 16
     → bits 16 (remainder a b c) ≡ folded (message a b c)
 remainder_bits a b c h i j =
     bits_mod 16 (sixteen (thirty (forty a b c)))
@@ -220,7 +209,7 @@ remainder_bits a b c h i j =
     ∙ ap sixteen_of (thirty_bits (forty a b c) ∙ ap thirty_of (forty_bits a b c h i j))
 
 -- the parity that the code looks at is what the remainder lacks
-words_odd : (a b c r : ℕ) → c < 2 ^ 16 → r < 2 ^ 16
+pub words_odd : (a b c r : ℕ) → c < 2 ^ 16 → r < 2 ^ 16
     → odd_ones (bits 32 (bit_xor (bit_xor (bit_xor a b) c) r)) ≡ xor (odd_ones (message a b c)) (odd_ones (bits 16 r))
 words_odd a b c r j k =
     odd_ones_xor 32 (bit_xor (bit_xor a b) c) r
@@ -232,32 +221,6 @@ words_odd a b c r j k =
     (odd_ones_append (bits 32 a) (bits 32 b ++ bits 16 c)
     ∙ ap (xor (odd_ones (bits 32 a))) (odd_ones_append (bits 32 b) (bits 16 c))))
     (odd_ones_above 16 16 r k)
-
--- so the factor is added where that is odd
-pub crc_words : (a b c : ℕ) (p : Bool) → a < 2 ^ 32 → b < 2 ^ 32 → c < 2 ^ 16
-    → p ≡ odd_ones (bits 32 (bit_xor (bit_xor (bit_xor a b) c) (remainder a b c)))
-    → bits 16 (cond p (bit_xor (remainder a b c) FACTOR) (remainder a b c)) ≡ crc generator (message a b c)
-unfolding with_parity
-crc_words a b c p h i j e =
-    added p
-    ∙ ap₂ (λ (s : List Bool) (q : Bool). plus s (times q factor)) right
-    (e
-    ∙ words_odd a b c r j (mod-lt (sixteen (thirty (forty a b c))) (lit< tt))
-    ∙ ap (λ (s : List Bool). xor (odd_ones (message a b c)) (odd_ones s)) right)
-    ∙ quick_crc (message a b c) (message_length a b c)
-  where
-    r : ℕ
-    r = remainder a b c
-
-    right : bits 16 r ≡ folded (message a b c)
-    right = remainder_bits a b c h i j
-
-    added : (p : Bool) → bits 16 (cond p (bit_xor r FACTOR) r) ≡ plus (bits 16 r) (times p factor)
-    added true = bits_xor 16 r FACTOR ∙ ap (plus (bits 16 r)) (sym (times_true factor))
-    added false =
-        sym
-        (ap (plus (bits 16 r)) (times_false factor)
-        ∙ plus_zeros (bits 16 r) (length factor) (bits_length 16 r ∙ sym (bits_length 16 FACTOR)))
 
 -- ---------------------------------------------------------------- ten bytes as three words
 

@@ -6,7 +6,8 @@ use mathlib.Core.Path.{refl, ap, sym, ◌∙◌}
 use borrow.Author.Count.{below_none}
 use Rattle.answer.specs.declared.Answer.TheVariants.{Done}
 use Rattle.finder.proofs.SearchLaws.{RuledOut, none_more, matching_start, matching_more}
-use Rattle.finder.proofs.SearchLaws.{fault_rules_out, passes_crc, crc_rules_out}
+use Rattle.finder.proofs.SearchLaws.{passes_crc, crc_rules_out}
+use Rattle.finder.proofs.FaultLaws.{fault_rules_out}
 use Rattle.finder.proofs.SearchLaws.{place_length, place_above, place_nowhere, place_found}
 use borrow.Author.Rules.{rules}
 use Rattle.finder.proofs.place.Goals as goal

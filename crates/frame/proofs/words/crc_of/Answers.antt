@@ -1,7 +1,7 @@
 -- `frame::words::crc_of` meets its contract, by the parity that its remainder lacks. Assumes nothing.
 use mathlib.Core.Bool.{true, false}
 use mathlib.Core.Path.{sym, ◌∙◌}
-use Rattle.frame.proofs.WordLaws.{crc_words}
+use Rattle.frame.proofs.QuickLaws.{crc_words}
 use Rattle.frame.proofs.words.crc_of.Goals as goal
 
 pub returns-then-odd : goal.returns-then-odd

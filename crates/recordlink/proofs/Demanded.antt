@@ -25,7 +25,7 @@ use Rattle.link.specs.Demand.{InTurn, most_held, held, at_near, bit13}
 use Rattle.link.specs.LogFacts.{LogFacts}
 use Rattle.link.proofs.PartOne as parts
 use Rattle.link.proofs.PartTwo as time
-use Rattle.recordlink.specs.Joined.{Area, Areas, both_started, done, step, run, ruled}
+use Rattle.recordlink.specs.Joined.{Area, Areas, both_started, done, run, ruled}
 use Rattle.recordlink.specs.Demand.{NothingLost, side_of, HeldThere, Idle, Landed, Delivered, AskedAlike}
 use Rattle.recordlink.proofs.Mirror.{Holds, call_is, end_is, BothHold, started_hold, step_hold, run_hold}
 use Rattle.recordlink.proofs.Mirror.{ruled_same, unmarked_same}

@@ -8,6 +8,8 @@ use Rattle.record.proofs.reset.Goals as goal
 pub returns : goal.returns
 unfolding resetting
 returns c =
-    let f = c in
-    let e = f in
-    let a = e.args.area.now in record { value = f.fill.ensures.value ∙ ap (λ (x : End). (filled x a).reply) e.reset-fresh.ensures; area_after = f.fill.ensures.area_after ∙ ap (λ (x : End). (filled x a).bytes) e.reset-fresh.ensures }
+    let a = c.args.area.now in
+    record {
+      value = c.fill.ensures.value ∙ ap (λ (x : End). (filled x a).reply) c.reset-fresh.ensures;
+      area_after = c.fill.ensures.area_after ∙ ap (λ (x : End). (filled x a).bytes) c.reset-fresh.ensures;
+    }

@@ -6,6 +6,7 @@ use Rattle.record.proofs.Gave.{take_reply}
 use Rattle.record.proofs.take.Goals as goal
 
 pub returns : goal.returns
-returns c =
-    let t = c in
-    record { value = take_reply _ _ (ap (λ (x : Told). x.answer) t.take_reason-told.ensures.value); area_after = t.take_reason-told.ensures.area_after }
+returns c = record {
+  value = take_reply _ _ (ap (λ (x : Told). x.answer) c.take_reason-told.ensures.value);
+  area_after = c.take_reason-told.ensures.area_after;
+}

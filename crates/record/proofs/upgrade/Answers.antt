@@ -7,16 +7,16 @@ use Rattle.record.proofs.upgrade.Goals as goal
 pub returns-then-not_one-not_two : goal.returns-then-not_one-not_two
 returns-then-not_one-not_two c =
     let e =
-    upgrade_bad c.args.old.now c.args.area.now c.refused_before-not_one.ensures c.refused_before-not_two.ensures c.if-not_one-not_two.true
-    c.bad_record.ensures
+    upgrade_bad c.args.old.now c.args.area.now c.refused_before-not_one.ensures
+    c.refused_before-not_two.ensures c.if-not_one-not_two.true c.bad_record.ensures
     in
     record { value = e.0; area_after = e.1 }
 
 pub returns-then-area-ne-SIZE : goal.returns-then-area-ne-SIZE
 returns-then-area-ne-SIZE c =
     let e =
-    upgrade_size c.args.old.now c.args.area.now c.refused_before-not_one.ensures c.refused_before-not_two.ensures c.if-not_one-not_two.false
-    c.if-area-ne-SIZE.true c.bad_record-then-area-ne-SIZE.ensures
+    upgrade_size c.args.old.now c.args.area.now c.refused_before-not_one.ensures
+    c.refused_before-not_two.ensures c.if-not_one-not_two.false c.if-area-ne-SIZE.true c.bad_record-then-area-ne-SIZE.ensures
     in
     record { value = e.0; area_after = e.1 }
 
@@ -28,7 +28,7 @@ put_newer-requires c =
 pub returns : goal.returns
 returns c =
     let e =
-    upgrade_done c.args.old.now c.args.area.now c.refused_before-not_one.ensures c.refused_before-not_two.ensures c.if-not_one-not_two.false
-    c.if-area-ne-SIZE.false c.put_newer.ensures
+    upgrade_done c.args.old.now c.args.area.now c.refused_before-not_one.ensures
+    c.refused_before-not_two.ensures c.if-not_one-not_two.false c.if-area-ne-SIZE.false c.put_newer.ensures
     in
     record { value = e.0; area_after = e.1 }

@@ -14,17 +14,15 @@ loop-i-init c = (omega arith, refl, refl)
 
 pub loop-i-preserved : goal.loop-i-preserved
 loop-i-preserved c =
-    let a = c in
-    let s = a.args.bytes.now in (
+    let s = c.args.bytes.now in (
       omega arith,
-      simp length-set a.loop-i.invariant.1,
+      simp length-set c.loop-i.invariant.1,
       rw add-one
-          (copy_step a.loop-i.eight [] s a.loop-i.i a.loop-i.i _ (omega arith) (omega arith) refl
-          a.loop-i.invariant.2),
+          (copy_step c.loop-i.eight [] s c.loop-i.i c.loop-i.i _ (omega arith) (omega arith) refl
+          c.loop-i.invariant.2),
     )
 
 pub returns : goal.returns
 returns c =
-    let a = c in
-    let n : a.loop-i.i ≡ 8 = omega arith in
-    sym (take_all a.loop-i.i _ (omega arith)) ∙ (a.loop-i.invariant.2 ∙ take_all a.loop-i.i _ (omega arith))
+    let n : c.loop-i.i ≡ 8 = omega arith in
+    sym (take_all c.loop-i.i _ (omega arith)) ∙ (c.loop-i.invariant.2 ∙ take_all c.loop-i.i _ (omega arith))

@@ -14,17 +14,15 @@ loop-i-init c = (omega arith, refl, refl)
 
 pub loop-i-preserved : goal.loop-i-preserved
 loop-i-preserved c =
-    let a = c in
-    let s = a.args in (
+    let s = c.args in (
       omega arith,
-      simp length-set a.loop-i.invariant.1,
-      pairs_step a.loop-i.symbols s.bytes.now a.loop-i.i _ _ (omega arith) (omega arith)
-          c.wide.ensures.value c.wide-in-loop-i.ensures.value a.loop-i.invariant.2,
+      simp length-set c.loop-i.invariant.1,
+      pairs_step c.loop-i.symbols s.bytes.now c.loop-i.i _ _ (omega arith) (omega arith)
+          c.wide.ensures.value c.wide-in-loop-i.ensures.value c.loop-i.invariant.2,
     )
 
 pub returns : goal.returns
 returns c =
-    let a = c in
-    let n : a.loop-i.i ≡ 12 = omega arith in
-    sym (take_all a.loop-i.i _ (omega arith))
-    ∙ (a.loop-i.invariant.2 ∙ ap pairs (take_all (2 * a.loop-i.i) _ (omega arith)))
+    let n : c.loop-i.i ≡ 12 = omega arith in
+    sym (take_all c.loop-i.i _ (omega arith))
+    ∙ (c.loop-i.invariant.2 ∙ ap pairs (take_all (2 * c.loop-i.i) _ (omega arith)))

@@ -11,18 +11,15 @@ loop-i-init c = (omega arith, refl)
 
 pub loop-i-preserved : goal.loop-i-preserved
 loop-i-preserved c =
-    let t = c in
-    let a = t in
-    let s = a.args in (
+    let s = c.args in (
       omega arith,
       rw add-one
-          (exceeds_step a.loop-i.found s.bytes.now s.limits.now a.loop-i.i (omega arith)
-          t.loop-i-test.true)
-          ∙ a.loop-i.invariant.1,
+          (exceeds_step c.loop-i.found s.bytes.now s.limits.now c.loop-i.i (omega arith)
+          c.loop-i-test.true)
+          ∙ c.loop-i.invariant.1,
     )
 
 pub returns : goal.returns
 returns c =
-    let a = c in
-    let s = a.args in
-    none_left _ s.bytes.now s.limits.now a.loop-i.i (omega arith) ∙ a.loop-i.invariant.1
+    let s = c.args in
+    none_left _ s.bytes.now s.limits.now c.loop-i.i (omega arith) ∙ c.loop-i.invariant.1

@@ -18,36 +18,28 @@ returns-then-wrong_head c = refused_head _ _ _ _ _ _ c.wrong_head.ensures c.if-w
 
 pub presence_of-left-requires : goal.presence_of-left-requires
 presence_of-left-requires c =
-    let i = c in
-    let l = head_long _ _ _ i.wrong_head.ensures i.if-wrong_head.false in
+    let l = head_long _ _ _ c.wrong_head.ensures c.if-wrong_head.false in
     search rules
 
 pub slice_bounds-exceeds-count : goal.slice_bounds-exceeds-count
 slice_bounds-exceeds-count c =
-    let i = c in
-    let l = head_long _ _ _ i.wrong_head.ensures i.if-wrong_head.false in
+    let l = head_long _ _ _ c.wrong_head.ensures c.if-wrong_head.false in
     search rules
 
 pub slice_bounds-exceeds-start : goal.slice_bounds-exceeds-start
 slice_bounds-exceeds-start c =
-    let i = c in
-    let l = head_long _ _ _ i.wrong_head.ensures i.if-wrong_head.false in
+    let l = head_long _ _ _ c.wrong_head.ensures c.if-wrong_head.false in
     search rules
 
 pub exceeds-above-requires : goal.exceeds-above-requires
 exceeds-above-requires c =
-    let i = c in
-    let l = head_long _ _ _ i.wrong_head.ensures i.if-wrong_head.false in
+    let l = head_long _ _ _ c.wrong_head.ensures c.if-wrong_head.false in
     search rules
 
 pub returns : goal.returns
 unfolding refused
 returns c =
-    let t = c in
-    let l = t in
-    let i = l in
-    let w = i in
-    let area = w.args.area.now in
-    ap₂ (λ (x : ℕ) (b : Bool). ltb lasting x || b) t.presence_of-left.ensures
-    (c.exceeds-above.ensures ∙ ap₂ exceeds (rest 3 area) l.limits-limits.ensures)
-    ∙ refused_values size version lasting (presence_of area) (drop 3 area) area w.wrong_head.ensures i.if-wrong_head.false
+    let area = c.args.area.now in
+    ap₂ (λ (x : ℕ) (b : Bool). ltb lasting x || b) c.presence_of-left.ensures
+    (c.exceeds-above.ensures ∙ ap₂ exceeds (rest 3 area) c.limits-limits.ensures)
+    ∙ refused_values size version lasting (presence_of area) (drop 3 area) area c.wrong_head.ensures c.if-wrong_head.false

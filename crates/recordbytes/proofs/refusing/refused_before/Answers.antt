@@ -14,68 +14,55 @@ returns-then-wrong_head c = refused_head _ _ _ _ _ _ c.wrong_head.ensures c.if-w
 
 pub bounds-area-71 : goal.bounds-area-71
 bounds-area-71 c =
-    let i = c in
-    let l = head_long _ _ _ i.wrong_head.ensures i.if-wrong_head.false in
+    let l = head_long _ _ _ c.wrong_head.ensures c.if-wrong_head.false in
     search rules
 
 pub slice_bounds-exceeds-count : goal.slice_bounds-exceeds-count
 slice_bounds-exceeds-count c =
-    let i = c in
-    let l = head_long _ _ _ i.wrong_head.ensures i.if-wrong_head.false in
+    let l = head_long _ _ _ c.wrong_head.ensures c.if-wrong_head.false in
     search rules
 
 pub slice_bounds-exceeds-start : goal.slice_bounds-exceeds-start
 slice_bounds-exceeds-start c =
-    let i = c in
-    let l = head_long _ _ _ i.wrong_head.ensures i.if-wrong_head.false in
+    let l = head_long _ _ _ c.wrong_head.ensures c.if-wrong_head.false in
     search rules
 
 pub slice_bounds-exceeds-end : goal.slice_bounds-exceeds-end
 slice_bounds-exceeds-end c =
-    let i = c in
-    let l = head_long _ _ _ i.wrong_head.ensures i.if-wrong_head.false in
+    let l = head_long _ _ _ c.wrong_head.ensures c.if-wrong_head.false in
     search rules
 
 pub exceeds-front-requires : goal.exceeds-front-requires
 exceeds-front-requires c =
-    let i = c in
-    let l = head_long _ _ _ i.wrong_head.ensures i.if-wrong_head.false in
+    let l = head_long _ _ _ c.wrong_head.ensures c.if-wrong_head.false in
     search rules
 
 pub slice_bounds-exceeds-count-3 : goal.slice_bounds-exceeds-count-3
 slice_bounds-exceeds-count-3 c =
-    let i = c in
-    let l = head_long _ _ _ i.wrong_head.ensures i.if-wrong_head.false in
+    let l = head_long _ _ _ c.wrong_head.ensures c.if-wrong_head.false in
     search rules
 
 pub slice_bounds-exceeds-start-3 : goal.slice_bounds-exceeds-start-3
 slice_bounds-exceeds-start-3 c =
-    let i = c in
-    let l = head_long _ _ _ i.wrong_head.ensures i.if-wrong_head.false in
+    let l = head_long _ _ _ c.wrong_head.ensures c.if-wrong_head.false in
     search rules
 
 pub slice_bounds-exceeds-end-3 : goal.slice_bounds-exceeds-end-3
 slice_bounds-exceeds-end-3 c =
-    let i = c in
-    let l = head_long _ _ _ i.wrong_head.ensures i.if-wrong_head.false in
+    let l = head_long _ _ _ c.wrong_head.ensures c.if-wrong_head.false in
     search rules
 
 pub exceeds-back-requires : goal.exceeds-back-requires
 exceeds-back-requires c =
-    let i = c in
-    let l = head_long _ _ _ i.wrong_head.ensures i.if-wrong_head.false in
+    let l = head_long _ _ _ c.wrong_head.ensures c.if-wrong_head.false in
     search rules
 
 pub returns : goal.returns
 unfolding refused_before
 returns c =
-    let f = c in
-    let m = f in
-    let i = m in
-    let w = i in
-    let a = w.args in
-    let l = head_long _ _ _ w.wrong_head.ensures i.if-wrong_head.false in
+    let a = c.args in
+    let l = head_long _ _ _ c.wrong_head.ensures c.if-wrong_head.false in
     ap (λ (b : Bool). ltb 1 (at a.area.now 71) || b)
-    (two_parts a.area.now a.size _ _ _ l (search rules) (search rules) m.limits-limits.ensures f.exceeds-front.ensures
+    (two_parts a.area.now a.size _ _ _ l (search rules) (search rules) c.limits-limits.ensures c.exceeds-front.ensures
     c.exceeds-back.ensures)
-    ∙ refused_values _ _ _ _ _ _ w.wrong_head.ensures i.if-wrong_head.false
+    ∙ refused_values _ _ _ _ _ _ c.wrong_head.ensures c.if-wrong_head.false

@@ -8,13 +8,10 @@ returns-then-area-size c = head_length _ _ _ c.if-area-size.true
 
 pub returns-then-wide-size : goal.returns-then-wide-size
 returns-then-wide-size c =
-    let w = c in
-    head_said _ _ _ w.if-area-size.false w.wide.ensures.value c.wide-2.ensures.value
+    head_said _ _ _ c.if-area-size.false c.wide.ensures.value c.wide-2.ensures.value
     c.if-wide-size.true
 
 pub returns : goal.returns
 returns c =
-    let i = c in
-    let w = i in
-    head_version _ _ _ w.if-area-size.false w.wide.ensures.value i.wide-2.ensures.value
-    i.if-wide-size.false
+    head_version _ _ _ c.if-area-size.false c.wide.ensures.value c.wide-2.ensures.value
+    c.if-wide-size.false

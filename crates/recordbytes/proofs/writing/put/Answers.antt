@@ -15,21 +15,17 @@ pub loop-i-init : goal.loop-i-init
 loop-i-init c = (omega arith, refl, rw (add-zero, append-nil) refl)
 
 pub loop-i-preserved : goal.loop-i-preserved
-loop-i-preserved c =
-    let t = c in
-    let a = t in
-    let s = a in (
-      omega arith,
-      simp length-set a.loop-i.invariant.1,
-      rw (add-one, add-suc)
-          (copy_step a.loop-i.area (take s.args.at s.args.area.now) s.args.bytes.now
-          (s.args.at + a.loop-i.i) a.loop-i.i _ (omega arith) t.loop-i-test.true refl a.loop-i.invariant.2),
-    )
+loop-i-preserved c = (
+  omega arith,
+  simp length-set c.loop-i.invariant.1,
+  rw (add-one, add-suc)
+      (copy_step c.loop-i.area (take c.args.at c.args.area.now) c.args.bytes.now
+      (c.args.at + c.loop-i.i) c.loop-i.i _ (omega arith) c.loop-i-test.true refl c.loop-i.invariant.2),
+)
 
 pub returns : goal.returns
 returns c =
-    let a = c in
-    let s = a.args in
-    let n : a.loop-i.i ≡ length s.bytes.now = omega arith in
+    let s = c.args in
+    let n : c.loop-i.i ≡ length s.bytes.now = omega arith in
     rw (sym n)
-    (a.loop-i.invariant.2 ∙ ap (λ (t : List ℕ). take s.at s.area.now ++ t) (take_all a.loop-i.i _ (omega arith)))
+    (c.loop-i.invariant.2 ∙ ap (λ (t : List ℕ). take s.at s.area.now ++ t) (take_all c.loop-i.i _ (omega arith)))

@@ -8,7 +8,8 @@ use Rattle.recordbytes.proofs.writing.put.Given as goal
 
 abbrev pub invariant-loop-i : goal.invariant-loop-i
 invariant-loop-i l =
-    (l.i ≤ length l.bytes) × (length l.area ≡ length l.initial.area) × (take (l.at + l.i) l.area ≡ take l.at l.initial.area ++ take l.i l.bytes)
+    (l.i ≤ length l.bytes) × (length l.area ≡ length l.initial.area)
+    × (take (l.at + l.i) l.area ≡ take l.at l.initial.area ++ take l.i l.bytes)
 
 abbrev pub decreases-loop-i : goal.decreases-loop-i
 decreases-loop-i l = length l.bytes - l.i

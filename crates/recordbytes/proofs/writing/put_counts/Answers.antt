@@ -5,16 +5,14 @@ use Rattle.recordbytes.proofs.writing.put_counts.Goals as goal
 
 pub returns : goal.returns
 returns c =
-    let p = c in
-    let l = p in
-    p.put.ensures
+    c.put.ensures
     ∙ rw (
-      l.low-4.ensures,
-      l.high-4.ensures,
-      l.low-3.ensures,
-      l.high-3.ensures,
-      l.low-2.ensures,
-      l.high-2.ensures,
-      l.low.ensures,
-      l.high.ensures,
+      c.low-4.ensures,
+      c.high-4.ensures,
+      c.low-3.ensures,
+      c.high-3.ensures,
+      c.low-2.ensures,
+      c.high-2.ensures,
+      c.low.ensures,
+      c.high.ensures,
     )

@@ -6,7 +6,5 @@ use Rattle.recordbytes.proofs.writing.put_inbox.Goals as goal
 
 pub returns : goal.returns
 returns c =
-    let p = c in
-    let s = p in
-    let a = s.args in
-    chained _ _ (take 78 a.area.now) _ a.inbox.bytes s.put.ensures p.put_eight.ensures
+    let a = c.args in
+    chained _ _ (take 78 a.area.now) _ a.inbox.bytes c.put.ensures c.put_eight.ensures

@@ -8,7 +8,5 @@ use Rattle.recordbytes.proofs.writing.put_presence.Goals as goal
 
 pub returns : goal.returns
 returns c =
-    let p = c in
-    let l = p in
-    sym (whole size p.put.new.area (search rules))
-    ∙ (p.put.ensures ∙ rw (l.low.ensures, l.high.ensures))
+    sym (whole size c.put.new.area (search rules))
+    ∙ (c.put.ensures ∙ rw (c.low.ensures, c.high.ensures))

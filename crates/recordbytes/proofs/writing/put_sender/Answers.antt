@@ -7,7 +7,5 @@ use Rattle.recordbytes.proofs.writing.put_sender.Goals as goal
 
 pub returns : goal.returns
 returns c =
-    let p = c in
-    let s = p in
-    let a = s.args in
-    chained _ _ (take 3 a.area.now) (twos a.sender.symbols) _ s.put_symbols.ensures p.put.ensures
+    let a = c.args in
+    chained _ _ (take 3 a.area.now) (twos a.sender.symbols) _ c.put_symbols.ensures c.put.ensures

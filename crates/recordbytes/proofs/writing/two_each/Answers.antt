@@ -15,19 +15,17 @@ loop-i-init c = (omega arith, refl, refl)
 
 pub loop-i-preserved : goal.loop-i-preserved
 loop-i-preserved c =
-    let a = c in
-    let s = a.args.symbols in
+    let s = c.args.symbols in
     let l : length s ≡ 12 = search rules in (
       omega arith,
-      simp (length-set, length-set) a.loop-i.invariant.1,
-      twos_step a.loop-i.bytes s a.loop-i.i _ _ (omega arith) (omega arith) c.high.ensures
-          c.low.ensures a.loop-i.invariant.2,
+      simp (length-set, length-set) c.loop-i.invariant.1,
+      twos_step c.loop-i.bytes s c.loop-i.i _ _ (omega arith) (omega arith) c.high.ensures
+          c.low.ensures c.loop-i.invariant.2,
     )
 
 pub returns : goal.returns
 returns c =
-    let a = c in
-    let n : a.loop-i.i ≡ 12 = omega arith in
-    let l : length a.args.symbols ≡ 12 = search rules in
-    sym (take_all (2 * a.loop-i.i) _ (omega arith))
-    ∙ (a.loop-i.invariant.2 ∙ ap twos (take_all a.loop-i.i _ (omega arith)))
+    let n : c.loop-i.i ≡ 12 = omega arith in
+    let l : length c.args.symbols ≡ 12 = search rules in
+    sym (take_all (2 * c.loop-i.i) _ (omega arith))
+    ∙ (c.loop-i.invariant.2 ∙ ap twos (take_all c.loop-i.i _ (omega arith)))

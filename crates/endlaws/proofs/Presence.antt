@@ -340,10 +340,11 @@ module _ (ts : List ℕ) where
       }
 
 pub reached_frame : (cs : List Call) → (present_of (reached cs) ≡ true) ↔ FrameWithin 768 (takes cs)
+unfolding reached
 reached_frame cs =
     let ts = takes cs in
     let same : present_of (reached cs) ≡ some (drop (length ts - 768) (completions [] ts)) =
-    reached_present cs
+    absent_present cs reset_of reset_good refl
     ∙ (ap (λ (l : List Bool). some (last_of 768 l)) (acceptances_are cs)
     ∙ ap (λ (n : ℕ). some (drop (n - 768) (completions [] ts))) (completions_length [] ts)) in (
       λ h. to_frame ts (some_completed (length ts - 768) [] ts (sym same ∙ h)),

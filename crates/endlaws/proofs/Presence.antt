@@ -4,7 +4,7 @@
 --   calls_left       where no frame is accepted: one less for each symbol taken
 --   calls_present    whether something is left of it: a frame was accepted with one of the last 768 symbols taken, or
 --                    what was left before them outlasts them
---   absent_present   the same from an end without presence; reached-present, from reset
+--   absent_present   the same from an end without presence; reached_present, from reset
 --   completions      with which symbols the last twelve taken are acceptable
 --   acceptances_are  from reset, a frame is accepted with a symbol exactly when the last twelve taken are acceptable
 --   reached_frame    so from reset the partner is present exactly when twelve symbols in a row were acceptable, and

@@ -1,5 +1,5 @@
 -- Every call keeps the shape of an end.
---   after_shaped                 each call keeps it (the end after reset has it: crate end, reset-shaped)
+--   after_shaped                 each call keeps it (the end after reset has it: crate end, reset_shaped)
 --   placed_keeps, placed_length  what storing a received symbol keeps
 --   counted_keeps                what counting it keeps
 --   tallied_below                counts of sixteen bits stay such

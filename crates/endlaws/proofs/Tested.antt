@@ -1,6 +1,6 @@
 -- The tests of the definitions decide the rows of the answer table.
 --   met, outside_row, received_row, read_only_row, pending_row   rows 1, 2, 3, 10 and 4 (for rows 5 and 6, a number
---                                                                above a limit: above-row of crate laws)
+--                                                                above a limit: above_row of crate laws)
 -- Assumes nothing.
 use Prim.Native.Nat.{ℕ, ◌+◌, ◌<◌, ◌≤◌, ◌/◌, ◌%◌}
 use mathlib.Core.Bool.{Bool, true, false, not, ◌||◌, true≢false}

@@ -2,7 +2,7 @@
 --   frame_after  the first frame start at or after a slot
 --   ahead, home  the delays as the direction sees them
 --   Seen         the invariant seen from one direction, for some cells
---   Going        with it the message's progress: goes_on after a host's call, slot-on after a slot
+--   Going        with it the message's progress: goes_on after a host's call, slot_on after a slot
 --   run_going    they hold after every continuation in which nothing that arrives is marked
 --   begins       the write that is accepted into an idle direction
 --   schedule, in_time   the times of the message's progress, and that the last one is within the bound

@@ -3,7 +3,7 @@
 --   Sync c x       the collection c is empty, or it has the frame of the cell x, the last that arrived, up to its place
 --   NextCell x y   y is sent after x: the same frame's next place, or place 0
 --   line_next      each cell of a line is next to the one before it
---   Joins s c y    what the symbol s of the cell y does to the collection c: marked-joins, sound-joins
+--   Joins s c y    what the symbol s of the cell y does to the collection c: marked_joins, sound_joins
 --   sound_counted, sound_accepts   a collection that has all of the frame so far has the next symbol too; with the last
 --                  one the frame is accepted
 -- Assumes nothing.

@@ -1,6 +1,6 @@
 -- Nothing that arrives is marked: a collection abreast of its line stays so, and a frame's last symbol makes it
 -- accepted.
---   NoneMarked        what arrives is not marked; sound-arrives: it is not where the line is sound
+--   NoneMarked        what arrives is not marked; sound_arrives: it is not where the line is sound
 --   arrival_abreast   the collection is abreast after one symbol more
 --   arrival_entered   the frame's message has entered
 --   arrival_heard     the frame is heard

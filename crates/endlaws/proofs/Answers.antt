@@ -1,6 +1,6 @@
 -- The answer table, for every call on an end, whatever the end is: each number is given exactly when its row
 -- holds and no earlier row does (registers 1, 2, 3, 10, 4; take 1, then 5; health 1, then 6), and 0 when none does.
---   bad-met         what row 1 is, spelled out
+--   bad_met         what row 1 is, spelled out
 --   CALL-N          the call gives the number N exactly when ..
 --   CALL-refused    any number but 0: the end as it came, value and symbol 0, and no reason
 -- Assumes nothing.
@@ -25,8 +25,8 @@ use Rattle.endlaws.specs.Rows.{Met, Outside, Received, SetsReadOnly, Pending}
 use Rattle.laws.proofs.Decide.{decides_iff, above_row, hit, skip, pass, never}
 use Rattle.endlaws.proofs.Tested.{met, outside_row, received_row, read_only_row, pending_row}
 
-pub bad-met : (e : End) → (bad e ≡ true) ↔ Met e
-bad-met e = decides_iff (met e)
+pub bad_met : (e : End) → (bad e ≡ true) ↔ Met e
+bad_met e = decides_iff (met e)
 
 -- the number of a result
 abbrev sent : Sent → ℕ
@@ -43,23 +43,23 @@ next r = number_of r.answer
 
 -- send
 
-pub send-1 : (e : End) → (number_of (send_of e).answer ≡ 1) ↔ Met e
+pub send_1 : (e : End) → (number_of (send_of e).answer ≡ 1) ↔ Met e
 unfolding send_of
-send-1 e = hit sent (bad e) (met e) refl (λ h. omega arith)
+send_1 e = hit sent (bad e) (met e) refl (λ h. omega arith)
 
-pub send-0 : (e : End) → (number_of (send_of e).answer ≡ 0) ↔ ¬ Met e
+pub send_0 : (e : End) → (number_of (send_of e).answer ≡ 0) ↔ ¬ Met e
 unfolding send_of
-send-0 e = pass sent (bad e) (met e) (λ h. omega arith) refl
+send_0 e = pass sent (bad e) (met e) (λ h. omega arith) refl
 
 -- take
 
-pub take-1 : (e : End) (s : ℕ) → (number_of (take_of e s).answer ≡ 1) ↔ Met e
+pub take_1 : (e : End) (s : ℕ) → (number_of (take_of e s).answer ≡ 1) ↔ Met e
 unfolding take_of
-take-1 e s = hit took (bad e) (met e) refl (never took (ltb 1023 s) (λ h. omega arith) (λ h. omega arith))
+take_1 e s = hit took (bad e) (met e) refl (never took (ltb 1023 s) (λ h. omega arith) (λ h. omega arith))
 
-pub take-5 : (e : End) (s : ℕ) → (number_of (take_of e s).answer ≡ 5) ↔ (¬ Met e × (1023 < s))
+pub take_5 : (e : End) (s : ℕ) → (number_of (take_of e s).answer ≡ 5) ↔ (¬ Met e × (1023 < s))
 unfolding take_of
-take-5 e s =
+take_5 e s =
     skip took (bad e) (met e) (λ h. omega arith) (λ _. hit took (ltb 1023 s) (above_row 1023 s) refl (λ h. omega arith))
 
 pub take_0 : (e : End) (s : ℕ) → (number_of (take_of e s).answer ≡ 0) ↔ (¬ Met e × ¬ (1023 < s))
@@ -70,75 +70,75 @@ take_0 e s =
 
 -- read
 
-pub read-1 : (e : End) (r : ℕ) → (number_of (read_of e r).answer ≡ 1) ↔ Met e
+pub read_1 : (e : End) (r : ℕ) → (number_of (read_of e r).answer ≡ 1) ↔ Met e
 unfolding read_of
-read-1 e r = hit got (bad e) (met e) refl (never got (outside r) (λ h. omega arith) (λ h. omega arith))
+read_1 e r = hit got (bad e) (met e) refl (never got (outside r) (λ h. omega arith) (λ h. omega arith))
 
-pub read-2 : (e : End) (r : ℕ) → (number_of (read_of e r).answer ≡ 2) ↔ (¬ Met e × Outside r)
+pub read_2 : (e : End) (r : ℕ) → (number_of (read_of e r).answer ≡ 2) ↔ (¬ Met e × Outside r)
 unfolding read_of
-read-2 e r =
+read_2 e r =
     skip got (bad e) (met e) (λ h. omega arith) (λ _. hit got (outside r) (outside_row r) refl (λ h. omega arith))
 
-pub read-0 : (e : End) (r : ℕ) → (number_of (read_of e r).answer ≡ 0) ↔ (¬ Met e × ¬ Outside r)
+pub read_0 : (e : End) (r : ℕ) → (number_of (read_of e r).answer ≡ 0) ↔ (¬ Met e × ¬ Outside r)
 unfolding read_of
-read-0 e r =
+read_0 e r =
     skip got (bad e) (met e) (λ h. omega arith) (λ _. pass got (outside r) (outside_row r) (λ h. omega arith) refl)
 
 -- write
 
-pub write-1 : (e : End) (r v : ℕ) → (number_of (write_of e r v).answer ≡ 1) ↔ Met e
+pub write_1 : (e : End) (r v : ℕ) → (number_of (write_of e r v).answer ≡ 1) ↔ Met e
 unfolding write_of
-write-1 e r v =
+write_1 e r v =
     hit next (bad e) (met e) refl
     (never next (outside r) (λ h. omega arith)
     (never next (read_only r) (λ h. omega arith)
     (never next (read_only_bits r v) (λ h. omega arith)
     (never next (blocked e r v) (λ h. omega arith) (λ h. omega arith)))))
 
-pub write-2 : (e : End) (r v : ℕ) → (number_of (write_of e r v).answer ≡ 2) ↔ (¬ Met e × Outside r)
+pub write_2 : (e : End) (r v : ℕ) → (number_of (write_of e r v).answer ≡ 2) ↔ (¬ Met e × Outside r)
 unfolding write_of
-write-2 e r v =
+write_2 e r v =
     skip next (bad e) (met e) (λ h. omega arith)
     (λ _. hit next (outside r) (outside_row r) refl
     (never next (read_only r) (λ h. omega arith)
     (never next (read_only_bits r v) (λ h. omega arith)
     (never next (blocked e r v) (λ h. omega arith) (λ h. omega arith)))))
 
-pub write-3 : (e : End) (r v : ℕ) → (number_of (write_of e r v).answer ≡ 3) ↔ (¬ Met e × (¬ Outside r × Received r))
+pub write_3 : (e : End) (r v : ℕ) → (number_of (write_of e r v).answer ≡ 3) ↔ (¬ Met e × (¬ Outside r × Received r))
 unfolding write_of
-write-3 e r v =
+write_3 e r v =
     skip next (bad e) (met e) (λ h. omega arith)
     (λ _. skip next (outside r) (outside_row r) (λ h. omega arith)
     (λ o. hit next (read_only r) (received_row r o) refl
     (never next (read_only_bits r v) (λ h. omega arith)
     (never next (blocked e r v) (λ h. omega arith) (λ h. omega arith)))))
 
-pub write-10 : (e : End) (r v : ℕ)
+pub write_10 : (e : End) (r v : ℕ)
     → (number_of (write_of e r v).answer ≡ 10) ↔ (¬ Met e × (¬ Outside r × (¬ Received r × SetsReadOnly r v)))
 unfolding write_of
-write-10 e r v =
+write_10 e r v =
     skip next (bad e) (met e) (λ h. omega arith)
     (λ _. skip next (outside r) (outside_row r) (λ h. omega arith)
     (λ o. skip next (read_only r) (received_row r o) (λ h. omega arith)
     (λ _. hit next (read_only_bits r v) (read_only_row r v) refl
     (never next (blocked e r v) (λ h. omega arith) (λ h. omega arith)))))
 
-pub write-4 : (e : End) (r v : ℕ)
+pub write_4 : (e : End) (r v : ℕ)
     → (number_of (write_of e r v).answer ≡ 4)
     ↔ (¬ Met e × (¬ Outside r × (¬ Received r × (¬ SetsReadOnly r v × Pending e r v))))
 unfolding write_of
-write-4 e r v =
+write_4 e r v =
     skip next (bad e) (met e) (λ h. omega arith)
     (λ _. skip next (outside r) (outside_row r) (λ h. omega arith)
     (λ o. skip next (read_only r) (received_row r o) (λ h. omega arith)
     (λ n. skip next (read_only_bits r v) (read_only_row r v) (λ h. omega arith)
     (λ _. hit next (blocked e r v) (pending_row e r v o n) refl (λ h. omega arith)))))
 
-pub write-0 : (e : End) (r v : ℕ)
+pub write_0 : (e : End) (r v : ℕ)
     → (number_of (write_of e r v).answer ≡ 0)
     ↔ (¬ Met e × (¬ Outside r × (¬ Received r × (¬ SetsReadOnly r v × ¬ Pending e r v))))
 unfolding write_of
-write-0 e r v =
+write_0 e r v =
     skip next (bad e) (met e) (λ h. omega arith)
     (λ _. skip next (outside r) (outside_row r) (λ h. omega arith)
     (λ o. skip next (read_only r) (received_row r o) (λ h. omega arith)
@@ -147,25 +147,25 @@ write-0 e r v =
 
 -- set health
 
-pub health-1 : (e : End) (h : ℕ) → (number_of (health_of e h).answer ≡ 1) ↔ Met e
+pub health_1 : (e : End) (h : ℕ) → (number_of (health_of e h).answer ≡ 1) ↔ Met e
 unfolding health_of
-health-1 e h = hit next (bad e) (met e) refl (never next (ltb 3 h) (λ k. omega arith) (λ k. omega arith))
+health_1 e h = hit next (bad e) (met e) refl (never next (ltb 3 h) (λ k. omega arith) (λ k. omega arith))
 
-pub health-6 : (e : End) (h : ℕ) → (number_of (health_of e h).answer ≡ 6) ↔ (¬ Met e × (3 < h))
+pub health_6 : (e : End) (h : ℕ) → (number_of (health_of e h).answer ≡ 6) ↔ (¬ Met e × (3 < h))
 unfolding health_of
-health-6 e h =
+health_6 e h =
     skip next (bad e) (met e) (λ k. omega arith) (λ _. hit next (ltb 3 h) (above_row 3 h) refl (λ k. omega arith))
 
-pub health-0 : (e : End) (h : ℕ) → (number_of (health_of e h).answer ≡ 0) ↔ (¬ Met e × ¬ (3 < h))
+pub health_0 : (e : End) (h : ℕ) → (number_of (health_of e h).answer ≡ 0) ↔ (¬ Met e × ¬ (3 < h))
 unfolding health_of
-health-0 e h =
+health_0 e h =
     skip next (bad e) (met e) (λ k. omega arith) (λ _. pass next (ltb 3 h) (above_row 3 h) (λ k. omega arith) refl)
 
 -- present
 
-pub present-met : (e : End) → Met e → present_of e ≡ false
+pub present_met : (e : End) → Met e → present_of e ≡ false
 unfolding present_of
-present-met e m = rw ((bad-met e).1 m)
+present_met e m = rw ((bad_met e).1 m)
 
 -- Refused: the end as it came
 
@@ -187,33 +187,33 @@ Unmoved e r = r.end ≡ e
 abbrev Untaken : End → Taken → Type 0
 Untaken e r = (r.reason ≡ Nothing) × (r.end ≡ e)
 
-pub send-refused : (e : End) → ¬ (number_of (send_of e).answer ≡ 0) → ((send_of e).symbol ≡ 0) × ((send_of e).end ≡ e)
+pub send_refused : (e : End) → ¬ (number_of (send_of e).answer ≡ 0) → ((send_of e).symbol ≡ 0) × ((send_of e).end ≡ e)
 unfolding send_of
-send-refused e = refused sent (Unsent e) (bad e) (refl, refl) (λ n. absurd (n refl))
+send_refused e = refused sent (Unsent e) (bad e) (refl, refl) (λ n. absurd (n refl))
 
-pub take-refused : (e : End) (s : ℕ) → ¬ (number_of (take_of e s).answer ≡ 0)
+pub take_refused : (e : End) (s : ℕ) → ¬ (number_of (take_of e s).answer ≡ 0)
     → ((take_of e s).reason ≡ Nothing) × ((take_of e s).end ≡ e)
 unfolding take_of
-take-refused e s =
+take_refused e s =
     refused took (Untaken e) (bad e) (refl, refl)
     (refused took (Untaken e) (ltb 1023 s) (refl, refl) (λ n. absurd (n refl)))
 
-pub read-refused : (e : End) (r : ℕ) → ¬ (number_of (read_of e r).answer ≡ 0)
+pub read_refused : (e : End) (r : ℕ) → ¬ (number_of (read_of e r).answer ≡ 0)
     → ((read_of e r).value ≡ 0) × ((read_of e r).end ≡ e)
 unfolding read_of
-read-refused e r =
+read_refused e r =
     refused got (Unread e) (bad e) (refl, refl) (refused got (Unread e) (outside r) (refl, refl) (λ n. absurd (n refl)))
 
-pub write-refused : (e : End) (r v : ℕ) → ¬ (number_of (write_of e r v).answer ≡ 0) → (write_of e r v).end ≡ e
+pub write_refused : (e : End) (r v : ℕ) → ¬ (number_of (write_of e r v).answer ≡ 0) → (write_of e r v).end ≡ e
 unfolding write_of
-write-refused e r v =
+write_refused e r v =
     refused next (Unmoved e) (bad e) refl
     (refused next (Unmoved e) (outside r) refl
     (refused next (Unmoved e) (read_only r) refl
     (refused next (Unmoved e) (read_only_bits r v) refl
     (refused next (Unmoved e) (blocked e r v) refl (λ n. absurd (n refl))))))
 
-pub health-refused : (e : End) (h : ℕ) → ¬ (number_of (health_of e h).answer ≡ 0) → (health_of e h).end ≡ e
+pub health_refused : (e : End) (h : ℕ) → ¬ (number_of (health_of e h).answer ≡ 0) → (health_of e h).end ≡ e
 unfolding health_of
-health-refused e h =
+health_refused e h =
     refused next (Unmoved e) (bad e) refl (refused next (Unmoved e) (ltb 3 h) refl (λ n. absurd (n refl)))

@@ -28,7 +28,7 @@ use Rattle.end.specs.Good.{bad}
 use Rattle.end.specs.Registers.{read_of, write_of}
 use Rattle.end.proofs.RegisterLaws.{write_message, write_full}
 use Rattle.endlaws.specs.Rows.{SetsReadOnly}
-use Rattle.endlaws.proofs.Answers.{read-0, write-0}
+use Rattle.endlaws.proofs.Answers.{read_0, write_0}
 use Rattle.endlaws.proofs.Done.{read_case, write_case}
 use Rattle.endlaws.proofs.Goods.{after_good}
 use Rattle.endlaws.proofs.Left.{write_leaves}
@@ -94,8 +94,8 @@ may_be_set n h = (read_only_row 2308 (32768 + n * 256)).fails (rw (le-ltb 0 _ hi
 pub control_follows : (e : End) (i v n : ℕ) → i < 4 → n < 16 → number_of (write_of e (2309 + i) v).answer ≡ 0
     → number_of (write_of e 2308 (32768 + n * 256)).answer ≡ 0
 control_follows e i v n b h k =
-    let w = (write-0 e (2309 + i) v).0 k in
-    (write-0 e 2308 (32768 + n * 256)).1 (
+    let w = (write_0 e (2309 + i) v).0 k in
+    (write_0 e 2308 (32768 + n * 256)).1 (
       w.0,
       (
         ⊎_elim (λ x. omega arith) (λ x. omega arith),
@@ -117,5 +117,5 @@ status_answers e =
 pub reads_follow : (e : End) (r s : ℕ) → 2308 ≤ s → s ≤ 2317 → number_of (read_of e r).answer ≡ 0
     → number_of (read_of (read_of e r).end s).answer ≡ 0
 reads_follow e r s l u h =
-    let g = after_good (Call.read r) e (decides_no (met e) ((read-0 e r).0 h).0) in
-    (read-0 (read_of e r).end s).1 ((met (read_of e r).end).fails g, ⊎_elim (λ x. omega arith) (λ x. omega arith))
+    let g = after_good (Call.read r) e (decides_no (met e) ((read_0 e r).0 h).0) in
+    (read_0 (read_of e r).end s).1 ((met (read_of e r).end).fails g, ⊎_elim (λ x. omega arith) (λ x. omega arith))

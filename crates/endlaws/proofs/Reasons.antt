@@ -1,6 +1,6 @@
 -- What take says of the collection.
 --   ended_exactly     of any collection: the reason that the definition works out is the one in plain terms
---   take_reason       so of every take that is not refused; of a refused one take-refused says that there is none
+--   take_reason       so of every take that is not refused; of a refused one take_refused says that there is none
 --   acceptances_reasons   a frame is accepted with a symbol exactly where the reason is that
 --   reached_holds     the end holds the symbols collected
 --   reached_reason    of every end reached from reset: the reason is what the frame check says of the symbols

@@ -91,7 +91,7 @@ read_only_row r v = record { holds = λ t. sets (d.holds t); fails = λ t s. d.f
     sets (q, s) = at s
       where
         one : {k w : ℕ} (b : Bit v k w) → ReadOnlyBit b.at → SetsReadOnly r v
-        one b h = record { control = q; bit = b.at; read-only = h; set = b.set }
+        one b h = record { control = q; bit = b.at; read_only = h; set = b.set }
 
         at : Stretches v → SetsReadOnly r v
         at (inl b) = one b (inl (omega (arith, b.from), omega (arith, b.below)))
@@ -99,7 +99,7 @@ read_only_row r v = record { holds = λ t. sets (d.holds t); fails = λ t s. d.f
         at (inr (inr b)) = one b (inr (inr (omega (arith, b.below))))
 
     found : SetsReadOnly r v → (r ≡ 2308) × Stretches v
-    found s = (s.control, at s.read-only)
+    found s = (s.control, at s.read_only)
       where
         bit : (k w : ℕ) → k ≤ s.bit → s.bit < k + w → Bit v k w
         bit k w f b = record { at = s.bit; from = f; below = b; set = s.set }

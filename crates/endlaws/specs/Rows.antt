@@ -34,7 +34,7 @@ ReadOnlyBit i = ((12 ≤ i) × (i ≤ 14)) ⊎ (((3 ≤ i) × (i ≤ 7)) ⊎ (i 
 pub record SetsReadOnly (r v : ℕ) : Type 0 where
   pub control : r ≡ 2308
   pub bit : ℕ
-  pub read-only : ReadOnlyBit bit
+  pub read_only : ReadOnlyBit bit
   pub set : v / 2 ^ bit % 2 ≡ 1
 
 abbrev pub Pending : End → ℕ → ℕ → Type 0

@@ -1,6 +1,6 @@
 -- The answers, for every call on an end, whatever the end is: each number is given exactly when its row holds and no
 -- earlier row does (write 1, 2, 3, 4; read 1, 2), and 0 when none does.
---   bad-met         what answer 1 looks at, spelled out
+--   bad_met         what answer 1 looks at, spelled out
 --   CALL-N          the call gives the number N exactly when ..
 --   CALL-numbers    and no higher number
 --   CALL-refused    any number but 0: the end as it came, value 0, and the block of which all is 0
@@ -28,8 +28,8 @@ use Rattle.fibrelaws.specs.Rows.{Met, Outside, Received, Requested}
 use Rattle.fibrelaws.proofs.Done.{send_case, take_case, read_case, write_case}
 use Rattle.fibrelaws.proofs.Tested.{met, met_by, outside_row, received_row, requested_row}
 
-pub bad-met : (e : End) → (bad e ≡ true) ↔ Met e
-bad-met e = decides_iff (met e)
+pub bad_met : (e : End) → (bad e ≡ true) ↔ Met e
+bad_met e = decides_iff (met e)
 
 -- the number of a result
 abbrev sent : Sent → ℕ
@@ -43,23 +43,23 @@ next r = number_of r.answer
 
 -- send
 
-pub send-1 : (e : End) → (number_of (send_of e).answer ≡ 1) ↔ Met e
+pub send_1 : (e : End) → (number_of (send_of e).answer ≡ 1) ↔ Met e
 unfolding send_of
-send-1 e = hit sent (bad e) (met e) refl (λ h. omega arith)
+send_1 e = hit sent (bad e) (met e) refl (λ h. omega arith)
 
-pub send-0 : (e : End) → (number_of (send_of e).answer ≡ 0) ↔ ¬ Met e
+pub send_0 : (e : End) → (number_of (send_of e).answer ≡ 0) ↔ ¬ Met e
 unfolding send_of
-send-0 e = pass sent (bad e) (met e) (λ h. omega arith) refl
+send_0 e = pass sent (bad e) (met e) (λ h. omega arith) refl
 
-pub send-numbers : (e : End) → number_of (send_of e).answer ≤ 1
-send-numbers e = send_case e (λ (r : Sent). sent r ≤ 1) (omega arith) (λ _. omega arith)
+pub send_numbers : (e : End) → number_of (send_of e).answer ≤ 1
+send_numbers e = send_case e (λ (r : Sent). sent r ≤ 1) (omega arith) (λ _. omega arith)
 
 -- take, of a block marked bad (m) or not
 
-pub take-1 : (e : End) (m : Bool) (b : Block)
+pub take_1 : (e : End) (m : Bool) (b : Block)
     → (number_of (take_of e m b).answer ≡ 1) ↔ (Met e ⊎ (4095 < b.control))
 unfolding take_of
-take-1 e m b = hit next _ (met_by e b) refl (never next m (λ h. omega arith) (λ h. omega arith))
+take_1 e m b = hit next _ (met_by e b) refl (never next m (λ h. omega arith) (λ h. omega arith))
 
 pub take_0 : (e : End) (m : Bool) (b : Block)
     → (number_of (take_of e m b).answer ≡ 0) ↔ ¬ (Met e ⊎ (4095 < b.control))
@@ -67,28 +67,28 @@ unfolding take_of
 take_0 e m b =
     pass next _ (met_by e b) (λ h. omega arith) (either (λ (r : Next). next r ≡ 0) m _ _ (λ _. refl) (λ _. refl))
 
-pub take-numbers : (e : End) (m : Bool) (b : Block) → number_of (take_of e m b).answer ≤ 1
-take-numbers e m b =
+pub take_numbers : (e : End) (m : Bool) (b : Block) → number_of (take_of e m b).answer ≤ 1
+take_numbers e m b =
     take_case e m b (λ (r : Next). next r ≤ 1) (omega arith) (λ _. omega arith) (λ _ _ _. omega arith)
 
 -- read
 
-pub read-1 : (e : End) (w : ℕ) → (number_of (read_of e w).answer ≡ 1) ↔ Met e
+pub read_1 : (e : End) (w : ℕ) → (number_of (read_of e w).answer ≡ 1) ↔ Met e
 unfolding read_of
-read-1 e w = hit got (bad e) (met e) refl (never got (outside w) (λ h. omega arith) (λ h. omega arith))
+read_1 e w = hit got (bad e) (met e) refl (never got (outside w) (λ h. omega arith) (λ h. omega arith))
 
-pub read-2 : (e : End) (w : ℕ) → (number_of (read_of e w).answer ≡ 2) ↔ (¬ Met e × Outside w)
+pub read_2 : (e : End) (w : ℕ) → (number_of (read_of e w).answer ≡ 2) ↔ (¬ Met e × Outside w)
 unfolding read_of
-read-2 e w =
+read_2 e w =
     skip got (bad e) (met e) (λ h. omega arith) (λ _. hit got (outside w) (outside_row w) refl (λ h. omega arith))
 
-pub read-0 : (e : End) (w : ℕ) → (number_of (read_of e w).answer ≡ 0) ↔ (¬ Met e × ¬ Outside w)
+pub read_0 : (e : End) (w : ℕ) → (number_of (read_of e w).answer ≡ 0) ↔ (¬ Met e × ¬ Outside w)
 unfolding read_of
-read-0 e w =
+read_0 e w =
     skip got (bad e) (met e) (λ h. omega arith) (λ _. pass got (outside w) (outside_row w) (λ h. omega arith) refl)
 
-pub read-numbers : (e : End) (w : ℕ) → number_of (read_of e w).answer ≤ 2
-read-numbers e w = read_case e w (λ (r : Read). got r ≤ 2) (λ _ k. k.1) (λ _ _. omega arith)
+pub read_numbers : (e : End) (w : ℕ) → number_of (read_of e w).answer ≤ 2
+read_numbers e w = read_case e w (λ (r : Read). got r ≤ 2) (λ _ k. k.1) (λ _ _. omega arith)
 
 -- write: whichever transmit word it is, a request decides
 
@@ -100,49 +100,49 @@ module _ (e : End) (w : ℕ) (a b : End) {n : ℕ} where
       → (next (cond (eqb w 0) (unless_requested e a) (unless_requested e b)) ≡ n) ↔ P
   both {P} h = either (λ (r : Next). (next r ≡ n) ↔ P) (eqb w 0) _ _ (λ _. h a) (λ _. h b)
 
-pub write-1 : (e : End) (w v : ℕ) → (number_of (write_of e w v).answer ≡ 1) ↔ Met e
+pub write_1 : (e : End) (w v : ℕ) → (number_of (write_of e w v).answer ≡ 1) ↔ Met e
 unfolding write_of
-write-1 e w v =
+write_1 e w v =
     hit next (bad e) (met e) refl
     (never next (outside w) (λ h. omega arith)
     (never next (receives w) (λ h. omega arith) (neither e w _ _ (λ h. omega arith) (λ h. omega arith))))
 
-pub write-2 : (e : End) (w v : ℕ) → (number_of (write_of e w v).answer ≡ 2) ↔ (¬ Met e × Outside w)
+pub write_2 : (e : End) (w v : ℕ) → (number_of (write_of e w v).answer ≡ 2) ↔ (¬ Met e × Outside w)
 unfolding write_of
-write-2 e w v =
+write_2 e w v =
     skip next (bad e) (met e) (λ h. omega arith)
     (λ _. hit next (outside w) (outside_row w) refl
     (never next (receives w) (λ h. omega arith) (neither e w _ _ (λ h. omega arith) (λ h. omega arith))))
 
-pub write-3 : (e : End) (w v : ℕ) → (number_of (write_of e w v).answer ≡ 3) ↔ (¬ Met e × (¬ Outside w × Received w))
+pub write_3 : (e : End) (w v : ℕ) → (number_of (write_of e w v).answer ≡ 3) ↔ (¬ Met e × (¬ Outside w × Received w))
 unfolding write_of
-write-3 e w v =
+write_3 e w v =
     skip next (bad e) (met e) (λ h. omega arith)
     (λ _. skip next (outside w) (outside_row w) (λ h. omega arith)
     (λ o. hit next (receives w) (received_row w o) refl (neither e w _ _ (λ h. omega arith) (λ h. omega arith))))
 
-pub write-4 : (e : End) (w v : ℕ)
+pub write_4 : (e : End) (w v : ℕ)
     → (number_of (write_of e w v).answer ≡ 4) ↔ (¬ Met e × (¬ Outside w × (¬ Received w × Requested e w)))
 unfolding write_of
-write-4 e w v =
+write_4 e w v =
     skip next (bad e) (met e) (λ h. omega arith)
     (λ _. skip next (outside w) (outside_row w) (λ h. omega arith)
     (λ o. skip next (receives w) (received_row w o) (λ h. omega arith)
     (λ n. both e w _ _
     (λ x. hit next e.transmit.txreq (requested_row e w o n) refl (λ h. omega arith)))))
 
-pub write-0 : (e : End) (w v : ℕ)
+pub write_0 : (e : End) (w v : ℕ)
     → (number_of (write_of e w v).answer ≡ 0) ↔ (¬ Met e × (¬ Outside w × (¬ Received w × ¬ Requested e w)))
 unfolding write_of
-write-0 e w v =
+write_0 e w v =
     skip next (bad e) (met e) (λ h. omega arith)
     (λ _. skip next (outside w) (outside_row w) (λ h. omega arith)
     (λ o. skip next (receives w) (received_row w o) (λ h. omega arith)
     (λ n. both e w _ _
     (λ x. pass next e.transmit.txreq (requested_row e w o n) (λ h. omega arith) refl))))
 
-pub write-numbers : (e : End) (w v : ℕ) → number_of (write_of e w v).answer ≤ 4
-write-numbers e w v =
+pub write_numbers : (e : End) (w v : ℕ) → number_of (write_of e w v).answer ≤ 4
+write_numbers e w v =
     write_case e w v (λ (r : Next). next r ≤ 4) (λ _ k. k.1) (λ _ _. omega arith) (λ _ _ _. omega arith)
 
 -- Refused: the end as it came
@@ -150,23 +150,23 @@ write-numbers e w v =
 abbrev zeros : Block
 zeros = record { msgt = false; phyt = false; mert = false; control = 0; words = replicate 8 0 }
 
-pub send-refused : (e : End) → ¬ (number_of (send_of e).answer ≡ 0) → ((send_of e).block ≡ zeros) × ((send_of e).end ≡ e)
-send-refused e =
+pub send_refused : (e : End) → ¬ (number_of (send_of e).answer ≡ 0) → ((send_of e).block ≡ zeros) × ((send_of e).end ≡ e)
+send_refused e =
     send_case e (λ (r : Sent). ¬ (sent r ≡ 0) → (r.block ≡ zeros) × (r.end ≡ e))
     (λ _. (refl, refl)) (λ _ k. absurd (k refl))
 
-pub take-refused : (e : End) (m : Bool) (b : Block) → ¬ (number_of (take_of e m b).answer ≡ 0) → (take_of e m b).end ≡ e
-take-refused e m b =
+pub take_refused : (e : End) (m : Bool) (b : Block) → ¬ (number_of (take_of e m b).answer ≡ 0) → (take_of e m b).end ≡ e
+take_refused e m b =
     take_case e m b (λ (r : Next). ¬ (next r ≡ 0) → r.end ≡ e)
     (λ _. refl) (λ _ _. refl) (λ _ _ _ k. absurd (k refl))
 
-pub read-refused : (e : End) (w : ℕ) → ¬ (number_of (read_of e w).answer ≡ 0)
+pub read_refused : (e : End) (w : ℕ) → ¬ (number_of (read_of e w).answer ≡ 0)
     → ((read_of e w).value ≡ 0) × ((read_of e w).end ≡ e)
-read-refused e w =
+read_refused e w =
     read_case e w (λ (r : Read). ¬ (got r ≡ 0) → (r.value ≡ 0) × (r.end ≡ e))
     (λ _ _ _. (refl, refl)) (λ _ _ k. absurd (k refl))
 
-pub write-refused : (e : End) (w v : ℕ) → ¬ (number_of (write_of e w v).answer ≡ 0) → (write_of e w v).end ≡ e
-write-refused e w v =
+pub write_refused : (e : End) (w v : ℕ) → ¬ (number_of (write_of e w v).answer ≡ 0) → (write_of e w v).end ≡ e
+write_refused e w v =
     write_case e w v (λ (r : Next). ¬ (next r ≡ 0) → r.end ≡ e)
     (λ _ _ _. refl) (λ _ _ k. absurd (k refl)) (λ _ _ _ k. absurd (k refl))

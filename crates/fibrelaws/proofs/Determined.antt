@@ -23,7 +23,7 @@ use Rattle.fibre.specs.Shape.{Eight, Shaped}
 use Rattle.fibre.specs.Taking.{take_of}
 use Rattle.fibre.specs.Words.{read_of, write_of}
 use Rattle.fibrelaws.specs.Does.{digit, Bits, Sends, Hears, Ignores, Takes, Reads, WriteLeaves, Writes}
-use Rattle.fibrelaws.proofs.Answers.{read-0, write-0}
+use Rattle.fibrelaws.proofs.Answers.{read_0, write_0}
 use Rattle.fibrelaws.proofs.Does.{send_does, take_does, read_does, write_does}
 use Rattle.fibrelaws.proofs.Reached.{after_shaped}
 use Rattle.fibrelaws.proofs.Tested.{below}
@@ -239,7 +239,7 @@ pub read_determined : (e : End) (w v : ℕ) (f : End) → Shaped e → Shaped f
     → (v ≡ (read_of e w).value) × (f ≡ (read_of e w).end)
 read_determined e w v f s t h x =
     let y = read_does e w h in (
-      value_one w e (let n = ((read-0 e w).0 h).1 in omega arith) x y,
+      value_one w e (let n = ((read_0 e w).0 h).1 in omega arith) x y,
       reads_one e f (read_of e w).end t (after_shaped (Call.read w) e tt s) w x y,
     )
 
@@ -248,6 +248,6 @@ pub write_determined : (e : End) (w v : ℕ) (f : End) → v < 65536 → Shaped 
     → Writes w v e f
     → f ≡ (write_of e w v).end
 write_determined e w v f b s t h x =
-    let u = (write-0 e w v).0 h in
+    let u = (write_0 e w v).0 h in
     writes_one e f (write_of e w v).end t (after_shaped (Call.write w v b) e tt s) w
     (below w u.1.0 u.1.1.0) x (write_does e w v s h)

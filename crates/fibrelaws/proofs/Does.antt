@@ -28,7 +28,7 @@ use Rattle.fibre.specs.Calls.{Call}
 use Rattle.fibre.specs.Shape.{Shaped}
 use Rattle.fibre.proofs.Laws.{Good, good}
 use Rattle.fibrelaws.specs.Does.{digit, Bits, Sends, Hears, Ignores, Takes, Reads, Writes, Back}
-use Rattle.fibrelaws.proofs.Answers.{read-0, write-0}
+use Rattle.fibrelaws.proofs.Answers.{read_0, write_0}
 use Rattle.fibrelaws.proofs.Done.{send_case, take_case, read_case, write_case}
 use Rattle.fibrelaws.proofs.Reached.{after_good}
 use Rattle.fibrelaws.proofs.Tested.{met, unmet}
@@ -230,9 +230,9 @@ module _ (e : End) (w v : ℕ) (b : v < 65536) (s : Shaped e) (h : number_of (wr
   -- the word that was written can be read
   back : Reads w (write_of e w v).end (read_of (write_of e w v).end w).value (read_of (write_of e w v).end w).end
   back =
-      let u = (write-0 e w v).0 h in
+      let u = (write_0 e w v).0 h in
       let f = (write_of e w v).end in
-      read_does f w ((read-0 f w).1 ((met f).fails (after_good (Call.write w v b) e (unmet e u.0)), u.1.0))
+      read_does f w ((read_0 f w).1 ((met f).fails (after_good (Call.write w v b) e (unmet e u.0)), u.1.0))
 
 pub control_back : (e : End) (v : ℕ) → v < 65536 → Shaped e → number_of (write_of e 0 v).answer ≡ 0
     → Back v e (read_of (write_of e 0 v).end 0).value

@@ -66,7 +66,7 @@ behind t es = es ++ cond t asks []
 reach : {r : Row} {P : Side → Side → Type 0} (es : List Event) → ruled a_to_b 0 0 es reset_world ≡ true
     → (run 0 0 es reset_world).a.log.load_count ≡ 2 → row_of (word_zero (run 0 0 es reset_world).a) ≡ r
     → P (run 0 0 es reset_world).a (run 0 0 es reset_world).b → Reaches r P
-reach es p q r s = record { D = 0; E = 0; events = es; by-rule = p; second = q; row_is = r; shows = s }
+reach es p q r s = record { D = 0; E = 0; events = es; by_rule = p; second = q; row_is = r; shows = s }
 
 -- the second one has just so much true of it, and the first one
 pub no_more : NoMore

@@ -240,30 +240,30 @@ module _ (d : Direction) (D E : ℕ) (es : List Event) where
   kept : Kept d D E (run D E es reset_world)
   kept = run_kept d D E es reset_world (reset_kept d D E)
 
-by-rule : (P : Side → Side → Type 0)
+by_rule : (P : Side → Side → Type 0)
     → ((fa fb : List Stamp) (near far : Side) → Way fa fb near far → Took far → P near far) → ByRule P
-by-rule P f d D E es r w e =
+by_rule P f d D E es r w e =
     subst (λ (x : World). P (near d x) (far d x)) (sym e)
     (f (kept d D E es).fa (kept d D E es).fb (near d (run D E es reset_world)) (far d (run D E es reset_world))
     (kept d D E es).way (took_after d D E es r))
 
 pub nothing_lost : NothingLost
 nothing_lost =
-    by-rule (λ near far. InTurn most_held near.host.accepted far.host.taken) (λ _ _ _ _ w t. in_turn_lem w t)
+    by_rule (λ near far. InTurn most_held near.host.accepted far.host.taken) (λ _ _ _ _ w t. in_turn_lem w t)
 
 pub held_there : HeldThere
-held_there = by-rule (λ near far. near.host.accepted ≡ far.host.taken ++ held near far) (λ _ _ _ _ w t. held_is w t)
+held_there = by_rule (λ near far. near.host.accepted ≡ far.host.taken ++ held near far) (λ _ _ _ _ w t. held_is w t)
 
 pub all_taken : AllTaken
 all_taken =
-    by-rule (λ near far. AllSaid (word_zero near) → near.host.accepted ≡ far.host.taken)
+    by_rule (λ near far. AllSaid (word_zero near) → near.host.accepted ≡ far.host.taken)
     (λ _ _ _ _ w t. all_said w t)
 
 pub table_two : TableTwo
-table_two = by-rule (λ near far. Told (row_of (word_zero near)) near far) (λ _ _ _ _ w t. told w t)
+table_two = by_rule (λ near far. Told (row_of (word_zero near)) near far) (λ _ _ _ _ w t. told w t)
 
 pub entered_is : EnteredIs
-entered_is = by-rule (λ near far. far.log.entered ≡ far.host.taken ++ register_holds far) (λ _ _ _ _ w t. t.whole)
+entered_is = by_rule (λ near far. far.log.entered ≡ far.host.taken ++ register_holds far) (λ _ _ _ _ w t. t.whole)
 
 toggle_is : (b : Bool) (n : ℕ) → Toggles b n → b ≡ odd n
 toggle_is b n e = sym (odd_is b n (sym e))
@@ -285,7 +285,7 @@ logs_true d D E es w e =
 
 pub reads_true : ReadsTrue
 reads_true =
-    by-rule ReadFacts
+    by_rule ReadFacts
     (λ _ _ _ far w t. record {
       sent_mert =
           toggle_is _ _ (subst (λ (n : ℕ). Toggles far.end.sent.mert n) (sym (taken_count w t)) w.sent_mert);

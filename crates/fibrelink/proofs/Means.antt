@@ -163,7 +163,7 @@ told_of t p m k = record {
   D = k.D;
   E = k.E;
   events = k.events;
-  by-rule = k.by-rule;
+  by_rule = k.by_rule;
   second = k.second;
   row_is = k.row_is;
   shows = λ r x. record {
@@ -182,11 +182,11 @@ told_of t p m k = record {
     own : Told (table t p m) w.a w.b
     own =
         subst (λ (s : Row). Told s w.a w.b) k.row_is
-        (table_two a_to_b k.D k.E k.events k.by-rule w refl)
+        (table_two a_to_b k.D k.E k.events k.by_rule w refl)
 
     few : length w.b.host.taken ≤ length w.b.log.entered
     few =
-        let a = ap (λ (l : List Message). length l) (entered_is a_to_b k.D k.E k.events k.by-rule w refl) in
+        let a = ap (λ (l : List Message). length l) (entered_is a_to_b k.D k.E k.events k.by_rule w refl) in
         let b = length-append w.b.host.taken (register_holds w.b) in
         omega (arith, a, b)
 

@@ -1,6 +1,6 @@
 -- What a side is after it has sent, or taken a block, or its host has called, where answer 1 does not meet its end.
---   sent_as l s    after sending, where l says that a message is loaded; sends-as
---   took_as n b s  after taking the block b, where n says that a message enters; takes-as
+--   sent_as l s    after sending, where l says that a message is loaded; sends_as
+--   took_as n b s  after taking the block b, where n says that a message enters; takes_as
 --   takes_spoilt   a block that is marked bad changes nothing
 -- Assumes nothing.
 use Prim.Native.Nat.{suc}

@@ -1,6 +1,6 @@
 -- The rule of a run, in the words of document 01, read over words 9 to 17: crate joined has them, for a first register
 -- and so many more.
---   reads_by      the receive-side read that a call is, with the value that the host saw, or none
+--   reads_by      the receive_side read that a call is, with the value that the host saw, or none
 --   reads d       those of a run, of the host that takes the messages of direction d
 --   first_word, more_words  word 9, and the eight after it
 --   message_read  the message that the values make: the control out of word 9, the words out of the others

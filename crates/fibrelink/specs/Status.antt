@@ -70,7 +70,7 @@ pub record Reaches (r : Row) (P : Side → Side → Type 0) : Type 0 where
   pub D : ℕ
   pub E : ℕ
   pub events : List Event
-  pub by-rule : ruled a_to_b D E events reset_world ≡ true
+  pub by_rule : ruled a_to_b D E events reset_world ≡ true
   pub second : (run D E events reset_world).a.log.load_count ≡ 2
   pub row_is : row_of (word_zero (run D E events reset_world).a) ≡ r
   pub shows : P (run D E events reset_world).a (run D E events reset_world).b

@@ -1,15 +1,15 @@
 -- The rule for taking a message, in the words of document 01: "To take a message a host reads [the first register] and,
--- only if bit 15 is set, next of its receive-side reads [the others] in that order; the last completes it. Slots and
+-- only if bit 15 is set, next of its receive_side reads [the others] in that order; the last completes it. Slots and
 -- other calls may fall between." A host may also read the first one again before the last, which begins the take anew.
---   ReadOut       one receive-side read: the register, and the value that the host saw; gave r v
+--   ReadOut       one receive_side read: the register, and the value that the host saw; gave r v
 --   reads_from r vs  the reads of registers r, r + 1 and so on, which gave the values vs
 --   Takes anew first more l   the reads l are takes by that sentence, one after the other, where so many more registers
 --                 follow the first one; the last take may be unfinished. Where anew, the first register may be read
 --                 again
 --   messages_of m  the messages of the takes that are complete: m says what message the values make, that of the first
 --                 register and those of the others
---   read_out first last r v  what a read of register r is of a take, that gave v: one receive-side read, or none
---   reads_in, reads_through  the receive-side reads, in one event and in a run, of the host that takes the messages of a
+--   read_out first last r v  what a read of register r is of a take, that gave v: one receive_side read, or none
+--   reads_in, reads_through  the receive_side reads, in one event and in a run, of the host that takes the messages of a
 --                 direction; by says which of them a call is
 -- Assumes nothing.
 use Rattle.std.specs.Prelude.{ℕ, suc, ◌<◌, Bool, true, false, cond, List, [], ◌∷◌, ◌++◌, ◌≡◌, length}

@@ -3,7 +3,7 @@
 --   chained, behind      a part behind a part
 --   whole                all of a list; rest, from a place to the end; ended, nothing from the end on
 --   one                  an element, and what stands behind it
---   zeros k              k zeros; zeros-cut, so many of more; zero-at, each is 0; zero-behind, behind a list too
+--   zeros k              k zeros; zeros_cut, so many of more; zero_at, each is 0; zero_behind, behind a list too
 --   same_split           two lists that are the same, cut at the same place
 --   take_past            the beginning of a list behind another
 --   spell, spelled       a list of a known length, element by element

@@ -84,7 +84,7 @@ cases = record {
   not_unseen = λ t. false≢true (t.shown (omega arith));
   take_ruled = refl;
   looks_ruled = refl;
-  no-message = refl;
+  no_message = refl;
   out_of_order = refl;
   others_ruled = refl;
   others_between = refl;
@@ -105,7 +105,7 @@ unfolding one_slot asked late run_by every taking slots none_marked bytes_of
 too_soon = record {
   idle = record { pending = refl; acknowledged = refl; empty = refl };
   accepted = refl;
-  none-marked = refl;
+  none_marked = refl;
   slots_are = refl;
   not_yet = refl;
   one_more = refl;
@@ -119,7 +119,7 @@ bound_tight promise = omega (arith, too_soon.not_yet, landed.acknowledged)
     landed =
         promise a_to_b 1 1 (quiet 1) one_slot refl too_soon.idle
         0x8000 sixteen too_soon.accepted asked refl
-        (quiet (short 1 1)) too_soon.none-marked (le_of_eq (sym too_soon.slots_are))
+        (quiet (short 1 1)) too_soon.none_marked (le_of_eq (sym too_soon.slots_are))
         late refl
 
 pub most_tight : MostTight

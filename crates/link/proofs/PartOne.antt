@@ -2,7 +2,7 @@
 -- the facts on the log.
 --   take_also      the first so many of what was accepted, with the next one where it stands in a place
 --   held_there, few, entered_are, log_facts   what the invariants say of one way
---   always, by-rule   what follows from them is true after every run, both ways
+--   always, by_rule   what follows from them is true after every run, both ways
 --   nothing_lost, held_where, entered_is, logs_true   so these are
 -- Assumes nothing.
 use Prim.Native.Nat.{ℕ, ◌+◌, ◌≤◌, ◌<◌}
@@ -159,25 +159,25 @@ pub always : (P : Side → Side → Type 0) → ((a b : Side) → AsKept a b (P 
 always P f d D E es w is =
     kept_so P d D E w (subst (λ (w : World). Kept D E w) (sym is) (run_kept D E es reset_world (reset_kept D E))) (f _ _)
 
-by-rule : (P : Side → Side → Type 0)
+by_rule : (P : Side → Side → Type 0)
     → ((a b : Side) → Took b.end.inbox b.host a.host.accepted b.log.entered → AsKept a b (P a b))
     → ByRule P
-by-rule P f d D E es q w is =
+by_rule P f d D E es q w is =
     kept_so P d D E w (subst (λ (w : World). Kept D E w) (sym is) (run_kept D E es reset_world (reset_kept D E)))
     (f _ _ (subst (λ (w : World). Taker d w) (sym is) (taker_kept d D E es q)))
 
 pub nothing_lost : NothingLost
 nothing_lost =
-    by-rule (λ near far. InTurn most_held near.host.accepted far.host.taken)
+    by_rule (λ near far. InTurn most_held near.host.accepted far.host.taken)
     (λ a b t ca cb D E pa pb v. record { rest = held a b; whole = held_there v t; few = few v })
 
 pub held_where : HeldThere
-held_where = by-rule (λ near far. near.host.accepted ≡ far.host.taken ++ held near far)
+held_where = by_rule (λ near far. near.host.accepted ≡ far.host.taken ++ held near far)
     (λ a b t ca cb D E pa pb v. held_there v t)
 
 pub logs_true : LogsTrue
 logs_true = always LogFacts (λ a b ca cb D E pa pb v. log_facts v)
 
 pub entered_is : EnteredIs
-entered_is = by-rule (λ near far. far.log.entered ≡ far.host.taken ++ register_holds far)
+entered_is = by_rule (λ near far. far.log.entered ≡ far.host.taken ++ register_holds far)
     (λ a b t ca cb D E pa pb v. entered_are v t)

@@ -7,7 +7,7 @@
 --   control        what a's host would read in 3.2308
 --   strange        a side in whose registers stand bytes, all 9, that its host did not write; no run leads to it
 --   low, high      the smallest and the largest mark
---   others         calls that are no receive-side reads
+--   others         calls that are no receive_side reads
 --   one_taken, two_sent, forgot  worlds and a side in which a direction is idle again, a second message was sent, a read
 --                  of 3.2308 is not in the log
 --   five, fits, marks   the message, and that the values that are written, and the marks, are in their ranges
@@ -139,7 +139,7 @@ pub record Cases : Type 0 where
   -- the rule
   pub take_ruled : ruled a_to_b 0 0 (first_reads 5) (later 12 0) ≡ true
   pub looks_ruled : ruled a_to_b 0 0 (first_reads 1 ++ first_reads 1) (later 0 0) ≡ true
-  pub no-message : ruled a_to_b 0 0 (first_reads 2) (later 0 0) ≡ false
+  pub no_message : ruled a_to_b 0 0 (first_reads 2) (later 0 0) ≡ false
   pub out_of_order : ruled a_to_b 0 0 (first_reads 1 ++ (at_b (read 2315) ∷ [])) (later 12 0) ≡ false
   -- slots and other calls may fall between
   pub others_ruled : ruled a_to_b 0 0 (first_reads 2 ++ (quiet 1 ++ (others ++ drop 2 (first_reads 5)))) (later 12 0) ≡ true

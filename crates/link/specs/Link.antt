@@ -12,7 +12,7 @@
 --   ruled_call    the rule for taking a message; Rule.antt says it in document 01's words
 --   receive_side, message_side  of a register number
 --   bytes_of       the bytes of several values, of each the two halves, 7:0 first
---   gathered, advance   what a host has after a receive-side read
+--   gathered, advance   what a host has after a receive_side read
 --   did_read, read_log  what a host has after a read; the log
 --   accepts, stores   a write that was answered 0, or not, accepts a message, stores message bytes
 --   message_written, wrote  the message that a write accepts; what a host has after a write
@@ -93,7 +93,7 @@ receive_side r = within 2313 2317 r
 abbrev pub message_side : ℕ → Bool
 message_side r = within 2309 2312 r
 
--- at stage n of a take a host reads 3.2313 + n next of its receive-side registers, or 3.2313, which begins anew; all
+-- at stage n of a take a host reads 3.2313 + n next of its receive_side registers, or 3.2313, which begins anew; all
 -- other calls are free
 abbrev pub ruled_call : Access → Host → Bool
 ruled_call (read r) h = may_read 2313 2317 h.stage r

@@ -1,6 +1,6 @@
 -- The rule of a run, in the words of document 01, over 3.2313 to 3.2317: crate joined has them, for a first register
 -- and so many more.
---   reads_by      the receive-side read that a call is, with the value that the host saw, or none
+--   reads_by      the receive_side read that a call is, with the value that the host saw, or none
 --   reads d       those of a run, of the host that takes the messages of direction d
 --   first_read, more_reads  3.2313, and the four after it
 --   message_read  the message that the values make: the number out of 3.2313, the bytes out of the others

@@ -41,7 +41,7 @@ late = run 1 1 (quiet (short 1 1)) asked
 pub record TooSoon : Type 0 where
   pub idle : Idle one_slot.a one_slot.b
   pub accepted : accepts_now 2308 0x8000 one_slot.a.end ≡ true
-  pub none-marked : unmarked 1 1 (quiet (short 1 1)) asked ≡ true
+  pub none_marked : unmarked 1 1 (quiet (short 1 1)) asked ≡ true
   pub slots_are : slots (quiet (short 1 1)) ≡ short 1 1
   pub not_yet : late.a.log.ack_count ≡ 0
   pub one_more : (run 1 1 (quiet (bound 1 1)) asked).a.log.ack_count ≡ 1

@@ -1,9 +1,9 @@
 -- The answer table through records, for every call and whatever the bytes are.
---   call-11         11 exactly when the record is wrong
---   call-n          any other number exactly when it is not, and the call on its end gives that number
---   call-never-1    1 is never given: an end that it would meet is answered 11
---   call-refused    any number but 0: the value is 0 and every byte is as it was
---   reset-11, reset-0, reset-refused   the same of reset, which asks only for an area of the right size
+--   call_11         11 exactly when the record is wrong
+--   call_n          any other number exactly when it is not, and the call on its end gives that number
+--   call_never_1    1 is never given: an end that it would meet is answered 11
+--   call_refused    any number but 0: the value is 0 and every byte is as it was
+--   reset_11, reset_0, reset_refused   the same of reset, which asks only for an area of the right size
 -- Assumes nothing.
 use Prim.Native.Nat.{ℕ}
 use mathlib.Core.Bool.{Bool, true, false, cond, true≢false}
@@ -16,7 +16,7 @@ use lib.ListN.{length}
 use borrow.Author.Tests.{eqb-true, eqb-false, ne_eqb}
 use Rattle.answer.specs.Number.{number_of}
 use Rattle.end.specs.Calls.{Call}
-use Rattle.endlaws.proofs.Answers.{bad-met}
+use Rattle.endlaws.proofs.Answers.{bad_met}
 use Rattle.laws.proofs.Decide.{Decides, hit, skip, pass}
 use Rattle.recordspec.specs.Record.{size, record_of, end_of, refused, Wrong}
 use Rattle.recordspec.specs.Results.{result}
@@ -31,27 +31,27 @@ use Rattle.record.specs.Runs.{called}
 abbrev replied : Called → ℕ
 replied x = number_of x.reply.answer
 
-pub call-11 : (c : Call) (r : List ℕ) → (number_of (called c r).reply.answer ≡ 11) ↔ Wrong r
+pub call_11 : (c : Call) (r : List ℕ) → (number_of (called c r).reply.answer ≡ 11) ↔ Wrong r
 unfolding through
-call-11 c r = hit replied (refused r) (wrong r) refl ((refuses c).not_11 (end_of r))
+call_11 c r = hit replied (refused r) (wrong r) refl ((refuses c).not_11 (end_of r))
 
-pub call-n : (c : Call) (r : List ℕ) (n : ℕ) → ¬ (n ≡ 11)
+pub call_n : (c : Call) (r : List ℕ) (n : ℕ) → ¬ (n ≡ 11)
     → (number_of (called c r).reply.answer ≡ n) ↔ (¬ Wrong r × (number_of (result c (end_of r)).answer ≡ n))
 unfolding through
-call-n c r n h = skip replied (refused r) (wrong r) (λ e. h (sym e)) (λ _. (λ e. e, λ e. e))
+call_n c r n h = skip replied (refused r) (wrong r) (λ e. h (sym e)) (λ _. (λ e. e, λ e. e))
 
-pub call-never-1 : (c : Call) (r : List ℕ) → ¬ (number_of (called c r).reply.answer ≡ 1)
-call-never-1 c r h =
-    let a = (call-n c r 1 (λ e. omega arith)).0 h in
+pub call_never_1 : (c : Call) (r : List ℕ) → ¬ (number_of (called c r).reply.answer ≡ 1)
+call_never_1 c r h =
+    let a = (call_n c r 1 (λ e. omega arith)).0 h in
     let f : refused r ≡ false = not_refused r a.0 in
-    true≢false (sym ((bad-met (end_of r)).1 ((refuses c).one_met (end_of r) a.1)) ∙ accepted_good r f)
+    true≢false (sym ((bad_met (end_of r)).1 ((refuses c).one_met (end_of r) a.1)) ∙ accepted_good r f)
 
 -- Refused: every byte as it was
 
-pub call-refused : (c : Call) (r : List ℕ) → ¬ (number_of (called c r).reply.answer ≡ 0)
+pub call_refused : (c : Call) (r : List ℕ) → ¬ (number_of (called c r).reply.answer ≡ 0)
     → ((called c r).reply.value ≡ 0) × ((called c r).bytes ≡ r)
 unfolding through
-call-refused c r = go (refused r) refl
+call_refused c r = go (refused r) refl
   where
     go : (b : Bool) → refused r ≡ b → ¬ (replied (cond b (bad_record r) (stored (result c (end_of r)))) ≡ 0)
         → ((cond b (bad_record r) (stored (result c (end_of r)))).reply.value ≡ 0)
@@ -63,17 +63,17 @@ call-refused c r = go (refused r) refl
 
 -- Reset
 
-right-size : (r : List ℕ) → Decides (eqb (length r) size) (length r ≡ size)
-right-size r = record { holds = eqb-true (length r) size; fails = eqb-false (length r) size }
+right_size : (r : List ℕ) → Decides (eqb (length r) size) (length r ≡ size)
+right_size r = record { holds = eqb-true (length r) size; fails = eqb-false (length r) size }
 
-pub reset-0 : (r : List ℕ) → (number_of (resetting r).reply.answer ≡ 0) ↔ (length r ≡ size)
+pub reset_0 : (r : List ℕ) → (number_of (resetting r).reply.answer ≡ 0) ↔ (length r ≡ size)
 unfolding resetting
-reset-0 r = hit replied (eqb (length r) size) (right-size r) refl (λ h. omega arith)
+reset_0 r = hit replied (eqb (length r) size) (right_size r) refl (λ h. omega arith)
 
-pub reset-11 : (r : List ℕ) → (number_of (resetting r).reply.answer ≡ 11) ↔ ¬ (length r ≡ size)
+pub reset_11 : (r : List ℕ) → (number_of (resetting r).reply.answer ≡ 11) ↔ ¬ (length r ≡ size)
 unfolding resetting
-reset-11 r = pass replied (eqb (length r) size) (right-size r) (λ h. omega arith) refl
+reset_11 r = pass replied (eqb (length r) size) (right_size r) (λ h. omega arith) refl
 
-pub reset-refused : (r : List ℕ) → ¬ (length r ≡ size) → ((resetting r).reply.value ≡ 0) × ((resetting r).bytes ≡ r)
+pub reset_refused : (r : List ℕ) → ¬ (length r ≡ size) → ((resetting r).reply.value ≡ 0) × ((resetting r).bytes ≡ r)
 unfolding resetting
-reset-refused r h = rw (ne_eqb (length r) size h) (refl, refl)
+reset_refused r h = rw (ne_eqb (length r) size h) (refl, refl)

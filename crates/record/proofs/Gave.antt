@@ -1,7 +1,7 @@
 -- Laws on which the proofs of the calls stand.
 --   gave_bad       what a call on a refused record gives
 --   gave_done      what a call on any other record gives
---   told-*         what a take that says why gives; take-reply, that its answer is all that a plain take has to say
+--   told-*         what a take that says why gives; take_reply, that its answer is all that a plain take has to say
 --   counts-*       what asking for the counts gives
 --   fill-*         what filling an area gives
 --   upgrade-*      what an upgrade gives: of what is refused, in an area of a wrong size, and otherwise

@@ -19,8 +19,8 @@ use Rattle.end.specs.Taking.{take_of}
 use Rattle.end.specs.Registers.{outside, read_only, read_only_bits, blocked, read_of, write_of, health_of}
 use Rattle.end.specs.Calls.{Call, send, take, read, write, health, present, after}
 use Rattle.endlaws.specs.Rows.{Met}
-use Rattle.endlaws.proofs.Answers.{send-1, take-1, read-1, write-1, health-1, send-refused, take-refused}
-use Rattle.endlaws.proofs.Answers.{read-refused, write-refused, health-refused}
+use Rattle.endlaws.proofs.Answers.{send_1, take_1, read_1, write_1, health_1, send_refused, take_refused}
+use Rattle.endlaws.proofs.Answers.{read_refused, write_refused, health_refused}
 use Rattle.laws.proofs.Decide.{never}
 use Rattle.recordspec.specs.Results.{Result, result}
 
@@ -72,22 +72,22 @@ unfolding health_of next
 health_not h e = never next (bad e) (λ k. omega arith) (never next (ltb 3 h) (λ k. omega arith) (λ k. omega arith))
 
 pub refuses : (c : Call) → Refuses (result c)
-refuses send = record { not_11 = send_not; one_met = λ e. (send-1 e).0; left = send-refused }
+refuses send = record { not_11 = send_not; one_met = λ e. (send_1 e).0; left = send_refused }
 refuses (take s) = record {
   not_11 = take_not s;
-  one_met = λ e. (take-1 e s).0;
-  left = λ e h. (refl, (take-refused e s h).1);
+  one_met = λ e. (take_1 e s).0;
+  left = λ e h. (refl, (take_refused e s h).1);
 }
-refuses (read r) = record { not_11 = read_not r; one_met = λ e. (read-1 e r).0; left = λ e. read-refused e r }
+refuses (read r) = record { not_11 = read_not r; one_met = λ e. (read_1 e r).0; left = λ e. read_refused e r }
 refuses (write r v k) = record {
   not_11 = write_not r v;
-  one_met = λ e. (write-1 e r v).0;
-  left = λ e h. (refl, write-refused e r v h);
+  one_met = λ e. (write_1 e r v).0;
+  left = λ e h. (refl, write_refused e r v h);
 }
 refuses (health h) = record {
   not_11 = health_not h;
-  one_met = λ e. (health-1 e h).0;
-  left = λ e k. (refl, health-refused e h k);
+  one_met = λ e. (health_1 e h).0;
+  left = λ e k. (refl, health_refused e h k);
 }
 refuses present = record {
   not_11 = λ e h. omega arith;

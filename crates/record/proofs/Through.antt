@@ -1,6 +1,6 @@
 -- Each call on a record is the call on its end, and so is each list of calls.
 --   through_end        a call on the record of an end: the call's answer and value, and the record of its next end
---   CALL-record        the same call by call, in document 01's own definitions; present-leaves, present changes no byte
+--   CALL-record        the same call by call, in document 01's own definitions; present_leaves, present changes no byte
 --   reason_record, reason_refused   a take that says why: what becomes of the collection; nothing where it is refused
 --   runs_same          any calls on the record of an end: the same replies, and the record of the end that they lead to
 --   runs_accepted, runs_refused   the same for any bytes, accepted or not
@@ -24,7 +24,7 @@ use Rattle.end.specs.Taking.{take_of}
 use Rattle.end.specs.Registers.{read_of, write_of, health_of}
 use Rattle.end.specs.Calls.{Call, after, calls, reached}
 use Rattle.end.specs.Shape.{Shaped}
-use Rattle.endlaws.proofs.Answers.{take-refused}
+use Rattle.endlaws.proofs.Answers.{take_refused}
 use Rattle.endlaws.proofs.Goods.{after_good, reset_good, reached_good, reached_shaped}
 use Rattle.endlaws.proofs.Shapes.{after_shaped}
 use Rattle.end.proofs.Guards.{reset_shaped}
@@ -75,7 +75,7 @@ reason_refused s r = go (refused r)
         → ¬ (number_of (cond b (bad_record r) (stored (taking s (end_of r)))).reply.answer ≡ 0)
         → cond b Nothing (take_of (end_of r) s).reason ≡ Nothing
     go true n = refl
-    go false n = (take-refused (end_of r) s n).0
+    go false n = (take_refused (end_of r) s n).0
 
 pub read_record : (n : ℕ) (r : List ℕ) → refused r ≡ false
     → Gives (through (reading n) r) (read_of (end_of r) n).answer (read_of (end_of r) n).value (read_of (end_of r) n).end

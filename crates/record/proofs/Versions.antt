@@ -1,14 +1,14 @@
 -- Requests #106 and #107: the upgrade of a record of version 1 or 2, and the counts and presence of a record.
---   upgrade_11, upgrade_0   which upgrades are answered so; there is no other number. With recordspec's one-version, an
---                      upgrade of a record as it is written now is answered 11, and by call-11 and counts-11 so is a
+--   upgrade_11, upgrade_0   which upgrades are answered so; there is no other number. With recordspec's one_version, an
+--                      upgrade of a record as it is written now is answered 11, and by call_11 and counts_11 so is a
 --                      call on a record of before
 --   upgrade_refused    any number but 0: the value is 0, and the area's bytes are as they were
 --   upgrade_record     of a good record of version 1 or 2, in an area of the right size: the record of its end;
---                      upgrade-bytes, its bytes
+--                      upgrade_bytes, its bytes
 --   upgrade_one        of what version 1 wrote of an end: the record of that end with all counts 0, and absent
 --   upgrade_two        of what version 2 wrote of an end: the record of that end with its counts, and absent
 --   upgrade_run        any calls after it: the replies of that end, and the record of the end that they lead to
---   told_apart         counts and presence make no difference to what is replied to any calls but present; told-counts,
+--   told_apart         counts and presence make no difference to what is replied to any calls but present; told_counts,
 --                      counts alone make none to any calls
 --   upgrade_goes_on    so after the upgrade of what version 1 or 2 wrote of an end, such calls are replied to as that
 --                      end does

@@ -35,7 +35,7 @@ unfolding arrived took_it took_again run_by every taking bytes_of through resett
     generator stream crc_of even even_symbol odd_symbol symbols build crc_right
 twice = record {
   once = refl;
-  by-rule = refl;
+  by_rule = refl;
   accepted = refl;
   taken = refl;
   not_in_turn = λ t. one_less t.rest (ap length t.whole);

@@ -27,7 +27,7 @@ took_again = run 0 0 (first_reads 5) restored
 
 pub record Twice : Type 0 where
   pub once : took_it.b.host.taken ≡ five ∷ []
-  pub by-rule : ruled a_to_b 0 0 (first_reads 5) restored ≡ true
+  pub by_rule : ruled a_to_b 0 0 (first_reads 5) restored ≡ true
   pub accepted : took_again.a.host.accepted ≡ five ∷ []
   pub taken : took_again.b.host.taken ≡ five ∷ five ∷ []
   pub not_in_turn : InTurn most_held took_again.a.host.accepted took_again.b.host.taken → ⊥

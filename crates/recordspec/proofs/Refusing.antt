@@ -1,5 +1,5 @@
 -- Laws on which the proofs of refusing stand.
---   head-*         each test on a record's head in turn; head-long, one that passes them has the right length
+--   head-*         each test on a record's head in turn; head_long, one that passes them has the right length
 --   refused_head, refused_values   what is refused by its head; else its values decide
 --   two_parts      the bytes of a record of before, on both sides of its bool
 --   good_length    a record that is not refused has the right length; one_of_two, of a record of before

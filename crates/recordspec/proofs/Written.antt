@@ -1,9 +1,9 @@
 -- What is true of the record of every end whose arrays have their lengths.
 --   NAME-spelled         each of an end's four arrays, element by element
---   two_back             a number from its two bytes; flag-back, a bool from its byte
---   record_length        a record's length; front_length, back-length, of its two parts that older versions have too
+--   two_back             a number from its two bytes; flag_back, a bool from its byte
+--   record_length        a record's length; front_length, back_length, of its two parts that older versions have too
 --   body_fits            an end's bytes behind the head are within their limits
---   read-back            the end of an end's record is that end
+--   read_back            the end of an end's record is that end
 --   NAME-fits            a bool's byte, a byte, and the high and the low byte of a symbol are within their limits
 --   written_accepted     the record of an end that answer 1 does not meet is not refused
 -- Assumes nothing.

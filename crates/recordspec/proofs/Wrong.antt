@@ -1,6 +1,6 @@
 -- Answer 11, spelled out, whatever the bytes are.
---   wrong_refused   what answer 11 meets; wrong-before-refused, of a version of before; wrong, wrong-before, as what is
---                   decided; not-refused, a record that is not wrong
+--   wrong_refused   what answer 11 meets; wrong_before_refused, of a version of before; wrong, wrong_before, as what is
+--                   decided; not_refused, a record that is not wrong
 -- Assumes nothing.
 use Prim.Native.Nat.{ℕ, suc, ◌<◌, ◌≤◌}
 use mathlib.Core.Bool.{Bool, true, false, false≢true}

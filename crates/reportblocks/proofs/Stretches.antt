@@ -2,7 +2,7 @@
 --   turn_cons, turn_more   the first message, and those behind it
 --   turn_none        none are in turn
 --   turn_length      messages in turn are there
---   turn_append      they are in turn whatever follows them; turn-snoc: and so is one more
+--   turn_append      they are in turn whatever follows them; turn_snoc: and so is one more
 --   turn_broken      a number out of turn ends them
 --   short            fewer than sixteen messages have no stretch
 --   skip, skips      messages whose number is not 0 begin none

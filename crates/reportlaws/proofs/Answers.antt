@@ -1,12 +1,12 @@
 -- What each call of request #110 gives, for every host, end and message: exactly when its row holds (specs/Rows.antt).
---   offer-4, offer-0      the number of the answer; offer-numbers, no other; offer-refused, the host stays
+--   offer_4, offer_0      the number of the answer; offer_numbers, no other; offer_refused, the host stays
 --   push_idle, push_waits, push_refused, push_part       what the sending host's step was
---   push-refuses          an end refuses with 1
+--   push_refuses          an end refuses with 1
 --   push_stays            unless a message was accepted, host and end stay as they came
 --   take_part, take_whole, take_out                      what a message was to the taking host
 --   pull_refused, pull_empty, pull_took                  what the taking host's step was
---   pull-refuses          an end refuses with 1
---   pull-stays            unless a message was taken, host and end stay, and no block is handed over
+--   pull_refuses          an end refuses with 1
+--   pull_stays            unless a message was taken, host and end stay, and no block is handed over
 -- Assumes nothing.
 use Prim.Native.Nat.{ℕ}
 use mathlib.Core.List.{List}
@@ -47,13 +47,13 @@ apart f n = neither (λ q. n (ap f q))
 
 -- Offer
 
-pub offer-4 : (h : SendingHost) (b : List ℕ) → (number_of (offer_of h b).answer ≡ 4) ↔ UnderWay h
-offer-4 h b =
+pub offer_4 : (h : SendingHost) (b : List ℕ) → (number_of (offer_of h b).answer ≡ 4) ↔ UnderWay h
+offer_4 h b =
     offer_case h b (λ (r : Offered). (number_of r.answer ≡ 4) ↔ UnderWay h)
     (λ u. yes_both refl u) (λ f. neither (λ k. omega arith) f)
 
-pub offer-0 : (h : SendingHost) (b : List ℕ) → (number_of (offer_of h b).answer ≡ 0) ↔ ¬ UnderWay h
-offer-0 h b =
+pub offer_0 : (h : SendingHost) (b : List ℕ) → (number_of (offer_of h b).answer ≡ 0) ↔ ¬ UnderWay h
+offer_0 h b =
     offer_case h b (λ (r : Offered). (number_of r.answer ≡ 0) ↔ ¬ UnderWay h)
     (λ u. neither (λ k. omega arith) (λ f. f u)) (λ f. yes_both refl f)
 
@@ -63,8 +63,8 @@ offer_numbers h b =
     offer_case h b (λ (r : Offered). (number_of r.answer ≡ 0) ⊎ (number_of r.answer ≡ 4))
     (λ _. inr refl) (λ _. inl refl)
 
-pub offer-refused : (h : SendingHost) (b : List ℕ) → ¬ (number_of (offer_of h b).answer ≡ 0) → (offer_of h b).host ≡ h
-offer-refused h b =
+pub offer_refused : (h : SendingHost) (b : List ℕ) → ¬ (number_of (offer_of h b).answer ≡ 0) → (offer_of h b).host ≡ h
+offer_refused h b =
     offer_case h b (λ (r : Offered). ¬ (number_of r.answer ≡ 0) → r.host ≡ h) (λ _ _. refl) (λ _ k. absurd (k refl))
 
 -- Push
@@ -107,8 +107,8 @@ push_refused h e a =
     ))
     (λ _ o. apart pushed (λ k. omega arith) (λ r. r.2 (ap number_of (sym r.1) ∙ o)))
 
-pub push-refuses : (h : SendingHost) (e : End) (a : Answer) → (push_of h e).what ≡ Push.Refused a → number_of a ≡ 1
-push-refuses h e a k =
+pub push_refuses : (h : SendingHost) (e : End) (a : Answer) → (push_of h e).what ≡ Push.Refused a → number_of a ≡ 1
+push_refuses h e a k =
     let (_, q, c, d) = (push_refused h e a).0 k in
     ap number_of (sym q)
     ∙ ⊎_elim (λ x. absurd (c (ap number_of (sym q) ∙ x))) (⊎_elim (λ x. x) (λ x. absurd (d (ap number_of (sym q) ∙ x))))
@@ -180,8 +180,8 @@ pull_refused h e a =
     (λ o _. apart pulled (λ k. omega arith) (λ r. r.1 (ap number_of (sym r.0) ∙ o)))
     (λ o _. apart pulled (λ k. omega arith) (λ r. r.1 (ap number_of (sym r.0) ∙ o)))
 
-pub pull-refuses : (h : TakingHost) (e : End) (a : Answer) → (pull_of h e).what ≡ Pull.Refused a → number_of a ≡ 1
-pull-refuses h e a k =
+pub pull_refuses : (h : TakingHost) (e : End) (a : Answer) → (pull_of h e).what ≡ Pull.Refused a → number_of a ≡ 1
+pull_refuses h e a k =
     let (q, c) = (pull_refused h e a).0 k in
     ap number_of (sym q) ∙ ⊎_elim (λ x. absurd (c (ap number_of (sym q) ∙ x))) (λ x. x) (status_answers e)
 
@@ -202,8 +202,8 @@ pull_took h e =
     (λ _ b. neither (λ (t, k). let z = ap pulled k in omega arith) (λ r. omega (arith, b, r.1)))
     (λ o b. yes_both (_, refl) (o, b))
 
-pub pull-stays : (h : TakingHost) (e : End) → ((t : Take) → ¬ ((pull_of h e).what ≡ Pull.Took t)) → Stays h e (pull_of h e)
-pull-stays h e =
+pub pull_stays : (h : TakingHost) (e : End) → ((t : Take) → ¬ ((pull_of h e).what ≡ Pull.Took t)) → Stays h e (pull_of h e)
+pull_stays h e =
     pull_case h e (λ (r : Pulled). ((t : Take) → ¬ (r.what ≡ Pull.Took t)) → Stays h e r)
     (λ _ _. record { host = refl; end = refl; block = zeros_are })
     (λ _ _ _. record { host = refl; end = refl; block = zeros_are })

@@ -1,6 +1,6 @@
 -- Blocks, byte by byte.
---   zeros_are       the fresh block has 128 zero bytes; zeros-one, and is the only one that has
---   filled_is       a part block with one message more; filled-one, and no other block is that
+--   zeros_are       the fresh block has 128 zero bytes; zeros_one, and is the only one that has
+--   filled_is       a part block with one message more; filled_one, and no other block is that
 -- Assumes nothing.
 use Prim.Native.Nat.{ℕ, ◌+◌, ◌-◌, ◌*◌, ◌<◌, ◌≤◌}
 use mathlib.Core.Bool.{Bool, true, false}

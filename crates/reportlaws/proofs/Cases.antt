@@ -25,7 +25,7 @@ use Rattle.answer.specs.Number.{number_of}
 use Rattle.end.specs.declared.End.{End}
 use Rattle.end.specs.declared.Next.{Next}
 use Rattle.end.specs.Registers.{read_of, write_of}
-use Rattle.endlaws.proofs.Answers.{write-refused}
+use Rattle.endlaws.proofs.Answers.{write_refused}
 use Rattle.endlaws.proofs.Calls.{bytes_alike, bytes_leave, control_follows, status_leaves}
 use Rattle.report.specs.declared.SendingHost.{SendingHost}
 use Rattle.report.specs.declared.Offered.{Offered}
@@ -113,7 +113,7 @@ module _ (b : List ℕ) (n : ℕ) (e : End) where
   written_not : ¬ Open e → written_of b n e ≡ record { answer = written e; end = e }
   written_not c =
       let a = bytes_alike e 0 0 (word_of b n 0) 0 (omega arith) (omega arith) in
-      let f = write-refused e 2309 (word_of b n 0) (λ k. c (ap number_of (sym a) ∙ k)) in
+      let f = write_refused e 2309 (word_of b n 0) (λ k. c (ap number_of (sym a) ∙ k)) in
       let y : Next = record { answer = written e; end = e } in
       no_more 2308 _ y c (no_more 2312 _ y c (no_more 2311 _ y c (no_more 2310 _ y c
       (λ i. record { answer = a i; end = f i }))))

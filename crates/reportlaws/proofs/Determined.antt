@@ -60,7 +60,7 @@ sending_fresh_determined k x = senders (blank x.block) x.next
 pub offer_determined : (h : SendingHost) (b : List ℕ) (r : Offered) → Offers h b r → r ≡ offer_of h b
 offer_determined h b r x =
     offer_case h b (λ (s : Offered). r ≡ s)
-    (λ u. let y = x.under-way u in offereds (number_of_same _ Blocked y.answer) y.host)
+    (λ u. let y = x.under_way u in offereds (number_of_same _ Blocked y.answer) y.host)
     (λ f. let y = x.free f in offereds (number_of_same _ Done y.answer) (senders y.block y.next))
 
 -- a value by its two bytes, and by its bits

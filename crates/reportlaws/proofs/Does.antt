@@ -34,8 +34,8 @@ sending_fresh = record { next = refl; block = zeros_are }
 pub offer_does : (h : SendingHost) (b : List ℕ) → Offers h b (offer_of h b)
 offer_does h b =
     offer_case h b (Offers h b)
-    (λ u. record { free = λ f. absurd (f u); under-way = λ _. record { answer = refl; host = refl } })
-    (λ f. record { free = λ _. record { answer = refl; next = refl; block = refl }; under-way = λ u. absurd (f u) })
+    (λ u. record { free = λ f. absurd (f u); under_way = λ _. record { answer = refl; host = refl } })
+    (λ f. record { free = λ _. record { answer = refl; next = refl; block = refl }; under_way = λ u. absurd (f u) })
 
 control_is : (n : ℕ) → n < 16 → Control n (control_of n)
 control_is n h = record {

@@ -1,7 +1,7 @@
 -- What each call does, field by field: h and e are the host and the end before it, r is what it gives. Bytes are said
 -- one by one: get_or l i 0 is the byte i of l, counted from 0.
 --   Zeros l            128 bytes, each of them 0
---   Bytes n l          n bytes of eight bits; bytes-any: any such
+--   Bytes n l          n bytes of eight bits; bytes_any: any such
 --   Holds v a b        the register's value v has the byte a in bits 7:0 and the byte b in bits 15:8
 --   FreshSending k     a fresh sending host: no block is under way
 --   Offers h b r       offer, of the block b: Accepts or Refuses
@@ -63,7 +63,7 @@ pub record Refuses (h : SendingHost) (r : Offered) : Type 0 where
 
 pub record Offers (h : SendingHost) (b : List ℕ) (r : Offered) : Type 0 where
   pub free : ¬ UnderWay h → Accepts b r
-  pub under-way : UnderWay h → Refuses h r
+  pub under_way : UnderWay h → Refuses h r
 
 abbrev pub Writes : End → List (ℕ × ℕ) → End → Type 0
 Writes e [] f = f ≡ e

@@ -1,5 +1,5 @@
 -- A step of the taking host, as reads of crate link.
---   five             the registers of a message; gets-calls: a side after reads is a side after calls
+--   five             the registers of a message; gets_calls: a side after reads is a side after calls
 --   brought          the message that five reads bring; read_all: it is the one message that is taken
 --   all-*, one-*     what five reads, and 3.2313 alone, leave of the host and of the end; they are by the rule
 --   pull_took, pull_none   the step where 3.2313 says that a message is there, and where it does not

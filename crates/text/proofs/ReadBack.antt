@@ -2,7 +2,7 @@
 --   glyph_read        a digit's byte counts what the digit does
 --   long_append     a word that spells q, and a digit d behind it, spell q * base + d
 --   hex_read          the digits of hex_of spell the value, where it has no more
---   short_read        so do those of short_of; decimal-read, those of decimal_of
+--   short_read        so do those of short_of; decimal_read, those of decimal_of
 -- Assumes nothing.
 use Prim.Native.Nat.{ℕ, zero, suc, ◌+◌, ◌*◌, ◌/◌, ◌%◌, ◌^◌, ◌≤◌, ◌<◌}
 use mathlib.Core.Bool.{Bool, true, false, cond}

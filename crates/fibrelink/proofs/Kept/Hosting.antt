@@ -1,7 +1,7 @@
 -- A host's call keeps what every run keeps.
 --   either-read      a host that read is one of two
 --   read_keeps       an end that was read is the end, or emptied
---   near_reads, far_reads, near-writes, far_writes   by the host of either side; near-called, far-called: any call
+--   near_reads, far_reads, near-writes, far_writes   by the host of either side; near_called, far_called: any call
 -- Assumes nothing.
 use Prim.Native.Nat.{ℕ, ◌+◌, ◌-◌, ◌%◌, ◌<◌}
 use mathlib.Core.Bool.{Bool, true, false, cond, ◌&&◌, false≢true}

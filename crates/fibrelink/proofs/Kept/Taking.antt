@@ -1,5 +1,5 @@
 -- Taking a block keeps what every run keeps.
---   near_takes, far_takes   a side takes the oldest block in flight; near-loses, far-loses: it is spoilt
+--   near_takes, far_takes   a side takes the oldest block in flight; near_loses, far_loses: it is spoilt
 --   near_hears, far_enters  what is heard then, and what has entered
 -- Assumes nothing.
 use Prim.Native.Nat.{ℕ, suc, ◌+◌, ◌≤◌}

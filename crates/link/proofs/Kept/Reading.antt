@@ -106,7 +106,7 @@ module _ {a b : Side} {ca cb : List Cell} {D E pa pb : ℕ} (i : Inv a b ca cb D
         hosted_as i a.end.sender.health (out_by a.end.outbox x) (in_by box u) (host_of n p tk) seen fine shaped
         i.fit_a.stored i.ab.holding (filled u) i.ab.filling i.ab.onward.frames
 
-    -- s says that it was a receive-side read; w is the value
+    -- s says that it was a receive_side read; w is the value
     by_tests : (r w : ℕ) (s : Bool)
         → Keeps (side_as a (end_by a.end u x) (cond s (advance r w a.host) a.host) seen)
     by_tests r w true = by_host _ _ _

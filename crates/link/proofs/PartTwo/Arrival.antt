@@ -58,7 +58,7 @@ taking_count s x = refl
 
 module _ {a b : Side} {ca cb : List Cell} {D E pa pb : ℕ} (v : Inv a b ca cb (suc D) E pa pb) (n₀ : ℕ)
     (abreast : Abreast b.end.collector ca (suc D) (suc n₀) (length ca)) (h : Harm)
-    (none-marked : NoneMarked D h a) where
+    (no_marks : NoneMarked D h a) where
   abbrev arrives : List ℕ
   arrives = arriving D h a.sent
 
@@ -73,7 +73,7 @@ module _ {a b : Side} {ca cb : List Cell} {D E pa pb : ℕ} (v : Inv a b ca cb (
         some = arriving_some v.fit_a.sender h D there
 
         unmarked : none_marked (harmed h (symbol_in y) ∷ []) ≡ true
-        unmarked = subst (λ (l : List ℕ). none_marked l ≡ true) some none-marked
+        unmarked = subst (λ (l : List ℕ). none_marked l ≡ true) some no_marks
 
     arrives_as : taking arrives b ≡ taking_as (symbol_in y) b
     arrives_as =

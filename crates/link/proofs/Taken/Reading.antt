@@ -2,7 +2,7 @@
 --   status_reads, pair_apart, take_pair   what 3.2313 and the registers of bytes hold
 --   TakeOk, no_take_ok   a take that is half done has read a part of what is in the register; none has begun
 --   Took, grown_took     see Taken.antt
---   gathered_by, host_by  the host after a receive-side read, by the tests of the register number and the value read
+--   gathered_by, host_by  the host after a receive_side read, by the tests of the register number and the value read
 --   read_took   Took is kept
 -- Assumes nothing.
 use Prim.Native.Nat.{ℕ, zero, suc, ◌+◌, ◌-◌, ◌*◌, ◌/◌, ◌%◌, ◌≤◌, ◌<◌}

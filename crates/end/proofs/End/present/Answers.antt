@@ -1,5 +1,5 @@
 -- `End::present` meets its contract. Each return knows what `bad` gave. Assumes nothing.
-use Rattle.end.specs.Good.{bad, present_of}
+use Rattle.end.specs.Good.{present_of}
 use Rattle.laws.proofs.Bools.{hence}
 use Rattle.end.proofs.End.present.Goals as goal
 

@@ -1,11 +1,9 @@
 -- `good::any_above` meets its contract: the list has a symbol above the limit where one of those passed is, or what is
 -- left of it has one. Assumes nothing.
-use Prim.Native.Nat.{◌-◌}
 use mathlib.Core.Path.{◌≡◌, refl, ◌∙◌}
 use native.Mathlib.Omega.{arith}
 use borrow.Author.Rules.{rules}
 use lib.ListN.{length}
-use Rattle.laws.specs.Above.{above}
 use Rattle.laws.proofs.AboveLaws.{above_here, above_next, above_end}
 use Rattle.end.proofs.good.any_above.Goals as goal
 use Rattle.end.proofs.good.any_above.Goals.{else-limit-symbols, then-limit-symbols}

@@ -63,6 +63,8 @@ def words(text, every):
 
 
 def antt(line, aliases):
+    if line.startswith("#"):  # what an edit says of itself
+        return words(line, False)
     m = re.match(r"^(.*?)((?:^|(?<=\s))--(?:\s.*)?)$", line)
     return code(m[1], aliases) + prose(m[2]) if m else code(line, aliases)
 

@@ -1,132 +1,94 @@
 // The calls of document 01 on an end, with what they print.
 #![tactic(auto)]
 
-ghost use Rattle.std.specs.Prelude.{◌≤◌, ◌+◌, length};
+ghost use Rattle.std.specs.Prelude.{◌++◌, ◌≡◌, ◌≤◌, ◌+◌, length, take};
+ghost use Rattle.answer.specs.Number.{number_of};
+ghost use Rattle.benchends.specs.Called.{answer_line, end_after, ended_of, line_of};
 ghost use Rattle.console.specs.Ready.{Room};
+ghost use Rattle.text.specs.Printed.{decimal_of};
+ghost use Rattle.text.specs.Written.{Kept, written};
 
+use answer::Answer;
 use benchcommands::call::Call;
 use end::{End, Next};
 use frame::reason::Reason;
-use text::print;
+use text::output::Output;
 
-// The end after a call, and where the output goes on.
-#[derive(Clone, Copy)]
-pub struct Called {
-    pub end: End,
-    pub at: usize,
-}
-
-// A call on an end, and its line.
-pub fn call_on(end: End, call: Call, out: &mut [u8], at: usize) -> Called
-    requires { Room at out.old }
-    ensures { result.at ≤ length out.new }
+// A call on an end, and its line. What the end is after it.
+pub fn call_on(end: End, call: Call, out: &mut Output) -> End
+    requires { Room out.old }
+    ensures end_value { result ≡ end_after call end }
+    ensures kept { Kept out.old out.new }
+    ensures written { written out.new ≡ written out.old ++ line_of call end }
 {
     match call {
-        Call::Reset => reset(out, at),
-        Call::Send => send(end, out, at),
-        Call::Take(symbol) => take(end, symbol, out, at),
-        Call::Read(register) => read(end, register, out, at),
-        Call::Write(register, value) => write(end, register, value, out, at),
-        Call::Health(health) => set_health(end, health, out, at),
-        Call::Present => present(end, out, at),
+        Call::Reset => {
+            out.text(b"0\n");
+            End::reset()
+        }
+        Call::Send => {
+            let sent = end.send();
+            number(sent.answer, out);
+            out.valued(sent.symbol, 3);
+            sent.end
+        }
+        Call::Take(symbol) => {
+            let taken = end.take(symbol);
+            number(taken.answer, out);
+            ended(taken.reason, out);
+            out.byte(b'\n');
+            taken.end
+        }
+        Call::Read(register) => {
+            let got = end.read(register);
+            number(got.answer, out);
+            out.valued(got.value, 4);
+            got.end
+        }
+        Call::Write(register, value) => answered(end.write(register, value), out),
+        Call::Health(health) => answered(end.set_health(health), out),
+        Call::Present => {
+            out.text(if end.present() { b"yes\n" } else { b"no\n" });
+            end
+        }
     }
-}
-
-fn reset(out: &mut [u8], at: usize) -> Called
-    requires { Room at out.old }
-    ensures { result.at ≤ length out.new }
-{
-    let end = End::reset();
-    let put = print::text(out, at, b"0\n");
-    Called { end, at: put }
-}
-
-fn send(end: End, out: &mut [u8], at: usize) -> Called
-    requires { Room at out.old }
-    ensures { result.at ≤ length out.new }
-{
-    let sent = end.send();
-    let next = sent.end;
-    let answer = sent.answer;
-    let told = print::small(out, at, answer::number(answer));
-    let put = print::valued(out, told, sent.symbol, 3);
-    Called { end: next, at: put }
-}
-
-fn take(end: End, symbol: u16, out: &mut [u8], at: usize) -> Called
-    requires { Room at out.old }
-    ensures { result.at ≤ length out.new }
-{
-    let taken = end.take(symbol);
-    let next = taken.end;
-    let answer = taken.answer;
-    let reason = taken.reason;
-    let told = print::small(out, at, answer::number(answer));
-    let said = ended(out, told, reason);
-    let put = print::byte(out, said, b'\n');
-    Called { end: next, at: put }
-}
-
-fn read(end: End, register: u16, out: &mut [u8], at: usize) -> Called
-    requires { Room at out.old }
-    ensures { result.at ≤ length out.new }
-{
-    let got = end.read(register);
-    let next = got.end;
-    let answer = got.answer;
-    let told = print::small(out, at, answer::number(answer));
-    let put = print::valued(out, told, got.value, 4);
-    Called { end: next, at: put }
-}
-
-fn write(end: End, register: u16, value: u16, out: &mut [u8], at: usize) -> Called
-    requires { Room at out.old }
-    ensures { result.at ≤ length out.new }
-{
-    answered(end.write(register, value), out, at)
-}
-
-fn set_health(end: End, health: u16, out: &mut [u8], at: usize) -> Called
-    requires { Room at out.old }
-    ensures { result.at ≤ length out.new }
-{
-    answered(end.set_health(health), out, at)
-}
-
-fn present(end: End, out: &mut [u8], at: usize) -> Called
-    requires { Room at out.old }
-    ensures { result.at ≤ length out.new }
-{
-    if end.present() {
-        let put = print::text(out, at, b"yes\n");
-        return Called { end, at: put };
-    }
-    let put = print::text(out, at, b"no\n");
-    Called { end, at: put }
 }
 
 // A line of an answer alone.
-fn answered(next: Next, out: &mut [u8], at: usize) -> Called
-    requires { Room at out.old }
-    ensures { result.at ≤ length out.new }
+fn answered(next: Next, out: &mut Output) -> End
+    requires { Room out.old }
+    ensures end_value { result ≡ next.end }
+    ensures kept { Kept out.old out.new }
+    ensures written { written out.new ≡ written out.old ++ answer_line next.answer }
 {
-    let end = next.end;
-    let answer = next.answer;
-    let told = print::small(out, at, answer::number(answer));
-    let put = print::byte(out, told, b'\n');
-    Called { end, at: put }
+    number(next.answer, out);
+    out.byte(b'\n');
+    next.end
+}
+
+// An answer's number, which begins its line.
+fn number(answer: Answer, out: &mut Output)
+    requires { out.old.at + 20 ≤ length out.old.bytes.now }
+    ensures kept { Kept out.old out.new }
+    ensures written { written out.new
+        ≡ written out.old ++ decimal_of (number_of answer) }
+    ensures at_bound { out.new.at ≤ out.old.at + 20 }
+{
+    out.decimal(u64::from(u8::from(answer)));
 }
 
 // What became of the collection, after a take's answer.
-fn ended(out: &mut [u8], at: usize, reason: Reason) -> usize
-    requires { at + 32 ≤ length out.old }
-    ensures { result ≤ at + 32 }
+fn ended(reason: Reason, out: &mut Output)
+    requires { out.old.at + 32 ≤ length out.old.bytes.now }
+    ensures kept { Kept out.old out.new }
+    ensures written { written out.new ≡ written out.old ++ ended_of reason }
+    ensures at_bound { out.new.at ≤ out.old.at + 32 }
 {
     match reason {
-        Reason::Nothing => at,
-        Reason::Accepted => print::text(out, at, b" accepted"),
-        Reason::Crc => print::text(out, at, b" crc"),
-        Reason::Marked(count) => print::numbered(out, at, b" marked ", count),
-        Reason::Parity(count) => print::numbered(out, at, b" early ", count),
+        Reason::Nothing => {}
+        Reason::Accepted => out.text(b" accepted"),
+        Reason::Crc => out.text(b" crc"),
+        Reason::Marked(count) => out.numbered(b" marked ", count),
+        Reason::Parity(count) => out.numbered(b" early ", count),
     }
 }

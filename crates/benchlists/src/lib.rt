@@ -1,145 +1,130 @@
 // The commands on lists: check, find, crc and build.
 #![tactic(auto)]
 
-ghost use Rattle.std.specs.Prelude.{◌≡◌, ◌≤◌, ◌+◌, length};
+ghost use Rattle.std.specs.Prelude.{◌++◌, ◌≡◌, ◌≤◌, ◌+◌, List, ℕ, length};
+ghost use Rattle.benchlists.specs.Listed.{Takes, build_line, bytes_of, check_line, crc_line, failed_of, find_line};
+ghost use Rattle.benchlists.specs.Listed.{largest_of, line_of};
 ghost use Rattle.console.specs.Ready.{Room};
+ghost use Rattle.text.specs.Numbers.{list_of, these};
+ghost use Rattle.text.specs.Words.{words_of};
+ghost use Rattle.text.specs.Written.{Kept, written};
 
-use benchcommands::lists::{BUILD, CHECK, CRC, FIND};
+use benchcommands::bytes::bytes_of;
+use benchcommands::lists::ListCommand;
 use frame::reason::Reason;
 use text::fault::Fault;
-use text::lists::{Listed, read};
-use text::numbers::MOST;
-use text::print;
+use text::lists::read;
+use text::output::Output;
 
-// The answer to the command of a name, whose list stands from a place on.
-pub fn answered(
-    name: usize,
-    line: &[u8],
-    from: usize,
-    symbols: &mut [u16],
-    out: &mut [u8],
-    at: usize,
-) -> usize
-    requires from_in_bounds { from ≤ length line.now }
-    requires room { Room at out.old }
-    ensures { result ≤ length out.new }
+// The answer to a command, whose list stands behind its word.
+pub fn answered(command: ListCommand, rest: &[u8], symbols: &mut [u16], out: &mut Output)
+    requires { Room out.old }
+    ensures kept { Kept out.old out.new }
+    ensures written { (list : List ℕ)
+        → list_of (largest_of command) (length symbols.old) (words_of rest.now) ≡ these list
+        → Takes command list
+        → written out.new ≡ written out.old ++ line_of command list }
 {
-    let most = largest(name);
-    match read(line, from, most, symbols) {
-        Listed::Wrong(fault) => print::fault(out, at, fault),
-        Listed::Count(count) => answer(name, &symbols[0..count], out, at),
+    match read(rest, largest(command), symbols) {
+        Ok(count) => answer(command, &symbols[..count], out),
+        Err(fault) => out.fault(fault),
     }
 }
 
 // The largest number of a command's list.
-fn largest(name: usize) -> u64
-    ensures { result ≤ 65535 }
+fn largest(command: ListCommand) -> u64
+    ensures value { result ≡ largest_of command }
+    ensures in_bounds { result ≤ 65535 }
 {
-    match name {
-        CRC | BUILD => 255,
-        _ => MOST,
+    match command {
+        ListCommand::Check | ListCommand::Find => 65535,
+        ListCommand::Crc | ListCommand::Build => 255,
     }
 }
 
-// The answer to the command of a name on its list.
-fn answer(name: usize, list: &[u16], out: &mut [u8], at: usize) -> usize
-    requires { Room at out.old }
-    ensures { result ≤ length out.new }
+// The answer to a command on its list.
+fn answer(command: ListCommand, list: &[u16], out: &mut Output)
+    requires { Room out.old }
+    ensures kept { Kept out.old out.new }
+    ensures written { Takes command list.now
+        → written out.new ≡ written out.old ++ line_of command list.now }
 {
-    match name {
-        CHECK => check(list, out, at),
-        FIND => find(list, out, at),
-        CRC => crc(list, out, at),
-        _ => build(list, out, at),
+    match command {
+        ListCommand::Check => check(list, out),
+        ListCommand::Find => find(list, out),
+        ListCommand::Crc => crc(list, out),
+        ListCommand::Build => build(list, out),
     }
 }
 
-fn check(list: &[u16], out: &mut [u8], at: usize) -> usize
-    requires { Room at out.old }
-    ensures { result ≤ length out.new }
+fn check(list: &[u16], out: &mut Output)
+    requires { Room out.old }
+    ensures kept { Kept out.old out.new }
+    ensures written { written out.new ≡ written out.old ++ check_line list.now }
 {
     let checked = frame::check(list);
-    let answer = checked.answer;
-    let reason = checked.reason;
-    let told = print::small(out, at, answer::number(answer));
-    let put = failed(out, told, reason);
-    print::byte(out, put, b'\n')
+    out.decimal(u64::from(u8::from(checked.answer)));
+    failed(checked.reason, out);
+    out.byte(b'\n');
 }
 
 // Why a frame failed, after answer 9.
-fn failed(out: &mut [u8], at: usize, reason: Reason) -> usize
-    requires { at + 32 ≤ length out.old }
-    ensures { result ≤ at + 32 }
+fn failed(reason: Reason, out: &mut Output)
+    requires { out.old.at + 32 ≤ length out.old.bytes.now }
+    ensures kept { Kept out.old out.new }
+    ensures written { written out.new ≡ written out.old ++ failed_of reason }
+    ensures at_bound { out.new.at ≤ out.old.at + 32 }
 {
     match reason {
-        Reason::Nothing => at,
-        Reason::Accepted => at,
-        Reason::Crc => print::text(out, at, b" crc"),
-        Reason::Marked(place) => print::numbered(out, at, b" marked ", place),
-        Reason::Parity(place) => print::numbered(out, at, b" parity ", place),
+        Reason::Nothing | Reason::Accepted => {}
+        Reason::Crc => out.text(b" crc"),
+        Reason::Marked(place) => out.numbered(b" marked ", place),
+        Reason::Parity(place) => out.numbered(b" parity ", place),
     }
 }
 
-fn find(list: &[u16], out: &mut [u8], at: usize) -> usize
-    requires { Room at out.old }
-    ensures { result ≤ length out.new }
+fn find(list: &[u16], out: &mut Output)
+    requires { Room out.old }
+    ensures kept { Kept out.old out.new }
+    ensures written { written out.new ≡ written out.old ++ find_line list.now }
 {
     let found = finder::place(list);
     let stretch = finder::find(list);
-    let answer = found.answer;
-    let told = print::small(out, at, answer::number(answer));
-    let placed = print::spaced(out, told, found.place as u64);
-    let put = print::spaced(out, placed, stretch.len() as u64);
-    print::byte(out, put, b'\n')
+    out.decimal(u64::from(u8::from(found.answer)));
+    out.spaced(found.place as u64);
+    out.spaced(stretch.len() as u64);
+    out.byte(b'\n');
 }
 
-fn crc(list: &[u16], out: &mut [u8], at: usize) -> usize
-    requires { Room at out.old }
-    ensures { result ≤ length out.new }
+fn crc(list: &[u16], out: &mut Output)
+    requires { Room out.old }
+    ensures kept { Kept out.old out.new }
+    ensures written { length list.now ≡ 10
+        → written out.new ≡ written out.old ++ crc_line (bytes_of list.now) }
 {
-    if list.len() != 10 {
-        return print::fault(out, at, Fault::Count);
-    }
-    let bytes = ten(list);
-    let crc = frame::crc(bytes);
-    let low = print::hex(out, at, (crc % 256) as u64, 2);
-    let space = print::byte(out, low, b' ');
-    let high = print::hex(out, space, (crc / 256) as u64, 2);
-    print::byte(out, high, b'\n')
+    let Some(bytes) = bytes_of(list) else {
+        out.fault(Fault::Count);
+        return;
+    };
+    let [high, low] = frame::crc(bytes).to_be_bytes();
+    out.hex(u64::from(low), 2);
+    out.byte(b' ');
+    out.hex(u64::from(high), 2);
+    out.byte(b'\n');
 }
 
-fn build(list: &[u16], out: &mut [u8], at: usize) -> usize
-    requires { Room at out.old }
-    ensures { result ≤ length out.new }
+fn build(list: &[u16], out: &mut Output)
+    requires { Room out.old }
+    ensures kept { Kept out.old out.new }
+    ensures written { length list.now ≡ 10
+        → written out.new ≡ written out.old ++ build_line (bytes_of list.now) }
 {
-    if list.len() != 10 {
-        return print::fault(out, at, Fault::Count);
+    let Some(bytes) = bytes_of(list) else {
+        out.fault(Fault::Count);
+        return;
+    };
+    for (i, symbol) in frame::build(bytes).iter().enumerate() {
+        out.hex(u64::from(*symbol), 3);
+        out.closing(i == 11);
     }
-    let bytes = ten(list);
-    let symbols = frame::build(bytes);
-    let mut put = at;
-    let mut i = 0;
-    while i < 12 {
-        let digits = print::hex(out, put, wide(symbols[i]), 3);
-        put = print::closing(out, digits, i == 11);
-        i += 1;
-    }
-    put
-}
-
-fn wide(symbol: u16) -> u64 {
-    symbol as u64
-}
-
-// Ten numbers as bytes.
-fn ten(list: &[u16]) -> [u8; 10]
-    requires { length list.now ≡ 10 }
-{
-    let mut bytes = [0u8; 10];
-    let mut i = 0;
-    while i < 10 {
-        bytes[i] = (list[i] % 256) as u8;
-        i += 1;
-    }
-    bytes
 }

@@ -5,17 +5,17 @@
 --   bytes_of l           the lowest eight bits of each number of l
 --   offered_by h x      after offer with the list x behind it: exactly 128 numbers are a block, and any other list
 --                       changes nothing
---   listed n l from     the list of a line l behind the call's word, from a place on: none above FF, at most n of them
+--   listed n l          the list of l, the rest of a line behind the call's word: none above FF, at most n of them
 --   host_after k h e x  the host after the call k
 --   end_after k h e     the end after it
 -- Assumes nothing.
-use Rattle.std.specs.Prelude.{ℕ, ◌%◌, cond, List, map, eqb, length, drop}
+use Rattle.std.specs.Prelude.{ℕ, ◌%◌, cond, List, map, eqb, length}
 use Rattle.benchcommands.specs.declared.call.HostCall.{HostCall}
 use Rattle.end.specs.declared.End.{End}
 use Rattle.report.specs.Sending.{offer_of, push_of}
 use Rattle.report.specs.Taking.{pull_of}
 use Rattle.text.specs.Numbers.{Numbers, these, wrong, list_of}
-use Rattle.text.specs.Words.{words_of, rest_of}
+use Rattle.text.specs.Words.{words_of}
 use Rattle.benchreports.specs.declared.Host.{Host}
 
 abbrev pub after_offer : Host → List ℕ → Host
@@ -34,8 +34,8 @@ abbrev pub offered_by : Host → Numbers → Host
 offered_by h (these l) = cond (eqb (length l) 128) (after_offer h (bytes_of l)) h
 offered_by h (wrong f) = h
 
-abbrev pub listed : ℕ → List ℕ → ℕ → Numbers
-listed n l from = list_of 255 n (rest_of (words_of (drop from l)))
+abbrev pub listed : ℕ → List ℕ → Numbers
+listed n l = list_of 255 n (words_of l)
 
 abbrev pub host_after : HostCall → Host → End → Numbers → Host
 host_after HostCall.Offer h e x = offered_by h x

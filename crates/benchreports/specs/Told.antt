@@ -6,9 +6,10 @@
 --   took_line t b     what pull prints of a message; b is the block that is handed over, where one is
 --   pull_line p b     what pull prints
 --   next_of n          the number n that is sent next; - where no block is under way
+--   miscounted_line n  what offer prints of n numbers that are no block
 --   report_line n m b  what report prints: the number that is next, the number in turn and the part block
 -- Assumes nothing.
-use Rattle.std.specs.Prelude.{ℕ, cond, List, [], ◌∷◌, ◌++◌, ◌≡◌, refl, ltb}
+use Rattle.std.specs.Prelude.{ℕ, cond, List, [], ◌∷◌, ◌++◌, ◌≡◌, refl, ltb, codes}
 use Rattle.answer.specs.declared.Answer.{Answer}
 use Rattle.answer.specs.Number.{number_of}
 use Rattle.report.specs.declared.Push.{Push}
@@ -75,6 +76,9 @@ pull_line (Pull.Took t) b = took_line t b
 
 abbrev pub next_of : ℕ → List ℕ
 next_of n = next ++ cond (ltb n 16) (decimal_of n) dash
+
+abbrev pub miscounted_line : ℕ → List ℕ
+miscounted_line n = (codes "? " ++ decimal_of n) ++ codes " bytes, not 128\n"
 
 abbrev pub report_line : ℕ → ℕ → List ℕ → List ℕ
 report_line n m b = (((next_of n ++ (turn ++ decimal_of m)) ++ (0x20 ∷ part)) ++ digits_of b) ++ newline

@@ -3,21 +3,24 @@
 
 mod lines;
 
-ghost use Rattle.std.specs.Prelude.{◌++◌, ◌≡◌, ◌≤◌, length, take};
-ghost use Rattle.benchreports.specs.Called.{after_offer, after_push, after_pull, bytes_of, listed, offered_by};
+ghost use Rattle.std.specs.Prelude.{◌++◌, ◌≡◌, length};
+ghost use Rattle.benchreports.specs.Called.{after_offer, after_push, after_pull, listed, offered_by};
 ghost use Rattle.benchreports.specs.Called.{end_after, host_after};
+ghost use Rattle.benchreports.specs.Printed.{Prints, PrintsOffer};
 ghost use Rattle.benchreports.specs.Told.{answer_line, push_line, pull_line, report_line};
 ghost use Rattle.console.specs.Ready.{Room};
-ghost use Rattle.report.specs.Sending.{offer_of, push_of};
-ghost use Rattle.report.specs.Taking.{pull_of};
+ghost use Rattle.consolecommands.specs.Commands.{at_side};
+ghost use Rattle.report.specs.Sending.{fresh_sending, offer_of, push_of};
+ghost use Rattle.report.specs.Taking.{fresh_taking, pull_of};
+ghost use Rattle.text.specs.Written.{Kept, written};
 
+use benchcommands::bytes::bytes_of;
 use benchcommands::call::HostCall;
 use consolecommands::Side;
 use end::End;
-use report::{BLOCK, SendingHost, TakingHost};
-use text::lists::{Listed, read};
-use text::print;
-use text::words::past_word;
+use report::{SendingHost, TakingHost};
+use text::lists::read;
+use text::output::Output;
 
 // The largest number of a block's list.
 const BYTE: u64 = 255;
@@ -36,201 +39,164 @@ pub struct Hosts {
     pub b: Host,
 }
 
-// An end and its reporting host after a line, and where the output goes on.
+// An end and its reporting host after a line.
 #[derive(Clone, Copy)]
 pub struct Called {
     pub end: End,
     pub host: Host,
-    pub at: usize,
 }
 
-// Both hosts fresh: no block is under way, and the part blocks have nothing in them.
-pub fn fresh() -> Hosts {
-    let sending = SendingHost::fresh();
-    let taking = TakingHost::fresh();
-    let host = Host { sending, taking };
-    Hosts { a: host, b: host }
-}
+impl Hosts {
+    // Both hosts fresh: no block is under way, and the part blocks have nothing in them.
+    pub fn fresh() -> Hosts
+        ensures sending { (result.a.sending ≡ fresh_sending) × (result.b.sending ≡ fresh_sending) }
+        ensures taking { (result.a.taking ≡ fresh_taking) × (result.b.taking ≡ fresh_taking) }
+    {
+        let host = Host {
+            sending: SendingHost::fresh(),
+            taking: TakingHost::fresh(),
+        };
+        Hosts { a: host, b: host }
+    }
 
-pub fn host_of(hosts: Hosts, side: Side) -> Host {
-    match side {
-        Side::A => hosts.a,
-        Side::B => hosts.b,
+    // The host of a side.
+    pub fn get(&self, side: Side) -> Host
+        ensures { result ≡ at_side side self.now.a self.now.b }
+    {
+        match side {
+            Side::A => self.a,
+            Side::B => self.b,
+        }
+    }
+
+    // Another host in a side's place.
+    pub fn set(&mut self, side: Side, host: Host)
+        ensures a { self.new.a ≡ at_side side host self.old.a }
+        ensures b { self.new.b ≡ at_side side self.old.b host }
+    {
+        match side {
+            Side::A => self.a = host,
+            Side::B => self.b = host,
+        }
     }
 }
 
-pub fn with_host(mut hosts: Hosts, side: Side, host: Host) -> Hosts {
-    match side {
-        Side::A => {
-            hosts.a = host;
-            hosts
-        }
-        Side::B => {
-            hosts.b = host;
-            hosts
-        }
-    }
-}
-
-// A call on an end's reporting host, and its line. The call's word, and what stands behind it, is from a place on.
+// A call on an end's reporting host, and its line. Behind the call's word stands the rest of a line.
 pub fn call_on(
     end: End,
     host: Host,
     call: HostCall,
-    line: &[u8],
-    from: usize,
+    rest: &[u8],
     symbols: &mut [u16],
-    out: &mut [u8],
-    at: usize,
+    out: &mut Output,
 ) -> Called
-    requires from_in_bounds { from ≤ length line.now }
-    requires room { Room at out.old }
-    ensures at_in_bounds { result.at ≤ length out.new }
-    ensures fact { (result.end ≡ end_after call host end)
-        × (result.host ≡ host_after call host end (listed (length symbols.old) line.now from)) }
+    requires { Room out.old }
+    ensures end_value { result.end ≡ end_after call host end }
+    ensures host_value { result.host ≡ host_after call host end (listed (length symbols.old) rest.now) }
+    ensures kept { Kept out.old out.new }
+    ensures printed { Prints call host end (listed (length symbols.old) rest.now)
+        (written out.old) (written out.new) }
 {
     match call {
-        HostCall::Offer => offer(end, host, line, from, symbols, out, at),
-        HostCall::Push => push(end, host, out, at),
-        HostCall::Pull => pull(end, host, out, at),
+        HostCall::Offer => Called {
+            end,
+            host: offer(host, rest, symbols, out),
+        },
+        HostCall::Push => push(end, host, out),
+        HostCall::Pull => pull(end, host, out),
         HostCall::Report => {
-            let put = report(host, out, at);
-            Called { end, host, at: put }
+            report(host, out);
+            Called { end, host }
         }
     }
 }
 
 // A block is offered. Nothing is asked of the end.
-fn offer(
-    end: End,
-    host: Host,
-    line: &[u8],
-    from: usize,
-    symbols: &mut [u16],
-    out: &mut [u8],
-    at: usize,
-) -> Called
-    requires from_in_bounds { from ≤ length line.now }
-    requires room { Room at out.old }
-    ensures at_in_bounds { result.at ≤ length out.new }
-    ensures fact { (result.end ≡ end) × (result.host ≡ offered_by host (listed (length symbols.old) line.now from)) }
+fn offer(host: Host, rest: &[u8], symbols: &mut [u16], out: &mut Output) -> Host
+    requires { Room out.old }
+    ensures value { result ≡ offered_by host (listed (length symbols.old) rest.now) }
+    ensures kept { Kept out.old out.new }
+    ensures printed { PrintsOffer host (listed (length symbols.old) rest.now)
+        (written out.old) (written out.new) }
 {
-    let after = past_word(line, from);
-    match read(line, after, BYTE, symbols) {
-        Listed::Wrong(fault) => {
-            let put = print::fault(out, at, fault);
-            Called { end, host, at: put }
+    match read(rest, BYTE, symbols) {
+        Err(fault) => {
+            out.fault(fault);
+            host
         }
-        Listed::Count(count) => {
-            if count == BLOCK {
-                let block = block_of(&symbols[0..count]);
-                return offered(end, host, block, out, at);
+        Ok(count) => match bytes_of(&symbols[..count]) {
+            Some(block) => offered(host, block, out),
+            None => {
+                lines::miscounted(count, out);
+                host
             }
-            let put = lines::miscounted(count, out, at);
-            Called { end, host, at: put }
-        }
-    }
-}
-
-// The bytes of a list as a block.
-fn block_of(list: &[u16]) -> [u8; 128]
-    requires { length list.now ≡ 128 }
-    ensures { result ≡ bytes_of list.now }
-{
-    let mut block = [0u8; BLOCK];
-    let mut i = 0;
-    while i < BLOCK {
-        block[i] = (list[i] % 256) as u8;
-        i += 1;
-    }
-    block
-}
-
-fn offered(end: End, host: Host, block: [u8; 128], out: &mut [u8], at: usize) -> Called
-    requires { Room at out.old }
-    ensures at_in_bounds { result.at ≤ length out.new }
-    ensures end_value { (result.end ≡ end) × (result.host ≡ after_offer host block) }
-    ensures out_after { take result.at out.new
-        ≡ take at out.old ++ answer_line (offer_of host.sending block).answer }
-{
-    let sending = host.sending;
-    let taking = host.taking;
-    let offered = sending.offer(block);
-    let answer = offered.answer;
-    let next = offered.host;
-    let put = lines::answered(answer, out, at);
-    Called {
-        end,
-        host: Host {
-            sending: next,
-            taking,
         },
-        at: put,
+    }
+}
+
+// The sending side has the block under way, unless it has another one already.
+fn offered(host: Host, block: [u8; 128], out: &mut Output) -> Host
+    requires { Room out.old }
+    ensures value { result ≡ after_offer host block }
+    ensures kept { Kept out.old out.new }
+    ensures written { written out.new
+        ≡ written out.old ++ answer_line (offer_of host.sending block).answer }
+{
+    let offered = host.sending.offer(block);
+    lines::answered(offered.answer, out);
+    Host {
+        sending: offered.host,
+        ..host
     }
 }
 
 // The sending side's step.
-fn push(end: End, host: Host, out: &mut [u8], at: usize) -> Called
-    requires { Room at out.old }
-    ensures at_in_bounds { result.at ≤ length out.new }
-    ensures end_value { (result.end ≡ (push_of host.sending end).end) × (result.host ≡ after_push host end) }
-    ensures out_after { take result.at out.new
-        ≡ take at out.old ++ push_line (push_of host.sending end).what }
+fn push(end: End, host: Host, out: &mut Output) -> Called
+    requires { Room out.old }
+    ensures end_value { result.end ≡ (push_of host.sending end).end }
+    ensures host_value { result.host ≡ after_push host end }
+    ensures kept { Kept out.old out.new }
+    ensures written { written out.new
+        ≡ written out.old ++ push_line (push_of host.sending end).what }
 {
-    let sending = host.sending;
-    let taking = host.taking;
-    let pushed = sending.push(end);
-    let what = pushed.what;
-    let next = pushed.host;
-    let after = pushed.end;
-    let put = lines::pushed(what, out, at);
+    let pushed = host.sending.push(end);
+    lines::pushed(pushed.what, out);
     Called {
-        end: after,
+        end: pushed.end,
         host: Host {
-            sending: next,
-            taking,
+            sending: pushed.host,
+            ..host
         },
-        at: put,
     }
 }
 
 // The taking side's step.
-fn pull(end: End, host: Host, out: &mut [u8], at: usize) -> Called
-    requires { Room at out.old }
-    ensures at_in_bounds { result.at ≤ length out.new }
-    ensures end_value { (result.end ≡ (pull_of host.taking end).end) × (result.host ≡ after_pull host end) }
-    ensures out_after { take result.at out.new
-        ≡ take at out.old
+fn pull(end: End, host: Host, out: &mut Output) -> Called
+    requires { Room out.old }
+    ensures end_value { result.end ≡ (pull_of host.taking end).end }
+    ensures host_value { result.host ≡ after_pull host end }
+    ensures kept { Kept out.old out.new }
+    ensures written { written out.new
+        ≡ written out.old
         ++ pull_line (pull_of host.taking end).what (pull_of host.taking end).block }
 {
-    let sending = host.sending;
-    let taking = host.taking;
-    let pulled = taking.pull(end);
-    let what = pulled.what;
-    let block = pulled.block;
-    let next = pulled.host;
-    let after = pulled.end;
-    let put = lines::pulled(what, block, out, at);
+    let pulled = host.taking.pull(end);
+    lines::pulled(pulled.what, pulled.block, out);
     Called {
-        end: after,
+        end: pulled.end,
         host: Host {
-            sending,
-            taking: next,
+            taking: pulled.host,
+            ..host
         },
-        at: put,
     }
 }
 
 // What the host has.
-fn report(host: Host, out: &mut [u8], at: usize) -> usize
-    requires { Room at out.old }
-    ensures upper_bound { result ≤ length out.new }
-    ensures out_after { take result out.new
-        ≡ take at out.old
-        ++ report_line host.sending.next host.taking.turn host.taking.block }
+fn report(host: Host, out: &mut Output)
+    requires { Room out.old }
+    ensures kept { Kept out.old out.new }
+    ensures written { written out.new
+        ≡ written out.old ++ report_line host.sending.next host.taking.turn host.taking.block }
 {
-    let sending = host.sending;
-    let taking = host.taking;
-    let block = taking.block;
-    lines::reported(sending.next, taking.turn, block, out, at)
+    lines::reported(host.sending.next, host.taking.turn, host.taking.block, out);
 }

@@ -9,7 +9,8 @@ pub struct Line {
     pub marks: u16,
 }
 
-// What arrives in a slot: nothing yet, or what was sent in that earlier slot, sound or marked.
+// What arrives in a slot: nothing yet, or what was sent in that earlier slot, sound or marked: three cases, as
+// `arrival_of` has them.
 #[derive(Clone, Copy)]
 pub enum Arrival {
     Nothing,
@@ -17,37 +18,42 @@ pub enum Arrival {
     Marked(u64),
 }
 
-// A line of a delay, with nothing marked.
-pub fn fresh(delay: u16) -> Line {
-    Line {
-        delay: delay as u64,
-        marks: 0,
+impl Line {
+    // A line of a delay, with nothing marked.
+    pub fn fresh(delay: u16) -> Line
+        ensures delay { result.delay ≡ delay }
+        ensures unmarked { result.marks ≡ 0 }
+    {
+        Line {
+            delay: u64::from(delay),
+            marks: 0,
+        }
     }
-}
 
-// What arrives in this slot.
-pub fn arrival_of(line: Line, now: u64) -> Arrival
-    ensures { result ≡ arrival_of line now }
-{
-    if now < line.delay {
-        return Arrival::Nothing;
+    // What arrives in this slot.
+    pub fn arrival(self, now: u64) -> Arrival
+        ensures { result ≡ arrival_of self now }
+    {
+        if now < self.delay {
+            return Arrival::Nothing;
+        }
+        let sent = now - self.delay;
+        if self.marks > 0 {
+            return Arrival::Marked(sent);
+        }
+        Arrival::Sound(sent)
     }
-    if 0 < line.marks {
-        return Arrival::Marked(now - line.delay);
-    }
-    Arrival::Sound(now - line.delay)
-}
 
-// The line after this slot. A mark is used up by what arrives, also where the end refuses it.
-pub fn after(mut line: Line, now: u64) -> Line
-    ensures { result ≡ after_of line now }
-{
-    if now < line.delay {
-        return line;
+    // The line after this slot. A mark is used up by what arrives, also where the end refuses it.
+    pub fn after(self, now: u64) -> Line
+        ensures { result ≡ after_of self now }
+    {
+        if now < self.delay {
+            return self;
+        }
+        Line {
+            marks: self.marks.saturating_sub(1),
+            ..self
+        }
     }
-    if 0 < line.marks {
-        line.marks -= 1;
-        return line;
-    }
-    line
 }

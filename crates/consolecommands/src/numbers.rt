@@ -1,66 +1,16 @@
 // Numbers that belong together in a command.
-ghost use Rattle.std.specs.Prelude.{◌≤◌, length};
+ghost use Rattle.std.specs.Prelude.{◌≡◌, ◌≤◌, IfOk};
+ghost use Rattle.consolecommands.specs.Commands.{two_of};
+ghost use Rattle.text.specs.Words.{words_of};
 
 use text::fault::Fault;
-use text::numbers::{DECIMAL, HEX, MOST, Number, last_number, next_number};
-use text::words::past_word;
+use text::numbers::Spelling;
 
-// Two numbers that were read, or what was wrong with one.
-#[derive(Clone, Copy)]
-pub enum Two {
-    Values(u16, u16),
-    Wrong(Fault),
-}
-
-// The element of a field and the value that set writes to it, or what was wrong with them.
-#[derive(Clone, Copy)]
-pub enum Element {
-    At(usize, u16),
-    Wrong(Fault),
-}
-
-// The last two words: a decimal number and one of the base, neither above the limit.
-pub fn two_numbers(line: &[u8], from: usize, most: u64, base: u64) -> Two
-    requires from_in_bounds { from ≤ length line.now }
-    requires base_bound { (base ≤ 16) × (most ≤ 65535) }
+// The last two words, as the two numbers that they spell.
+pub fn two_numbers(line: &[u8], first: Spelling, second: Spelling) -> Result<(u16, u16), Fault>
+    ensures value { result ≡ two_of first.base first.most second.base second.most (words_of line.now) }
+    ensures within { IfOk result (λ r. (r.0 ≤ first.most) × (r.1 ≤ second.most)) }
 {
-    let after = past_word(line, from);
-    match next_number(line, from, DECIMAL, most) {
-        Number::Wrong(fault) => Two::Wrong(fault),
-        Number::Value(first) => match last_number(line, after, base, most) {
-            Number::Wrong(fault) => Two::Wrong(fault),
-            Number::Value(second) => Two::Values(first, second),
-        },
-    }
-}
-
-// What stands behind a field's name: the value, and before it the element where the field is an array of so many.
-pub fn element_of(count: usize, most: u64, line: &[u8], from: usize) -> Element
-    requires from_in_bounds { from ≤ length line.now }
-    requires most_bound { most ≤ 65535 }
-{
-    if count == 1 {
-        return element_at(0, most, line, from);
-    }
-    let after = past_word(line, from);
-    match next_number(line, from, DECIMAL, MOST) {
-        Number::Wrong(fault) => Element::Wrong(fault),
-        Number::Value(i) => {
-            let place = i as usize;
-            if place < count {
-                return element_at(place, most, line, after);
-            }
-            Element::Wrong(Fault::TooLarge)
-        }
-    }
-}
-
-fn element_at(i: usize, most: u64, line: &[u8], from: usize) -> Element
-    requires from_in_bounds { from ≤ length line.now }
-    requires most_bound { most ≤ 65535 }
-{
-    match last_number(line, from, HEX, most) {
-        Number::Wrong(fault) => Element::Wrong(fault),
-        Number::Value(value) => Element::At(i, value),
-    }
+    let (number, rest) = first.next(line)?;
+    Ok((number, second.last(rest)?))
 }

@@ -1,3 +1,4 @@
 pub mod Laws
 pub mod RegisterLaws
 pub mod Guards
+pub mod Zeros

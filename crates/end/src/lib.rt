@@ -17,7 +17,7 @@ use frame::reason::Reason;
 use receiver::{Collector, Counts, Heard, Inbox};
 
 // The sending side: the twelve symbols being sent and where the next slot is.
-#[derive(Clone, Copy)]
+#[derive(Clone, Copy, Default)]
 pub struct Sender {
     pub symbols: [u16; 12],
     pub position: u8,
@@ -30,7 +30,7 @@ pub struct Sender {
 }
 
 // The transmit registers, 3.2308 to 3.2312.
-#[derive(Clone, Copy)]
+#[derive(Clone, Copy, Default)]
 pub struct Outbox {
     pub pending: bool,
     // the register toggle
@@ -45,7 +45,7 @@ pub struct Outbox {
 }
 
 // The whole end: what it sends with, and the receiving side.
-#[derive(Clone, Copy)]
+#[derive(Clone, Copy, Default)]
 pub struct End {
     pub sender: Sender,
     pub outbox: Outbox,
@@ -56,6 +56,9 @@ pub struct End {
     // how many more symbols without an accepted frame until presence lapses; 0 where the partner is absent
     pub presence: u16,
 }
+
+// What the calls give. The next end comes out with the answer, where a call is refused too, as document 01 has it: so
+// these are no Results.
 
 // What send gives: the symbol of this slot.
 #[derive(Clone, Copy)]

@@ -1,9 +1,8 @@
 // Taking, one symbol.
-ghost use Rattle.std.specs.Prelude.{◌≡◌, false};
-ghost use Rattle.end.specs.Good.{bad};
+ghost use Rattle.std.specs.Prelude.{◌≡◌};
 ghost use Rattle.end.specs.Taking.{took_of, take_of};
 
-use crate::good::bad;
+use crate::good::Good;
 use crate::{End, Taken};
 use answer::Answer;
 use frame::reason::Reason;
@@ -17,13 +16,13 @@ impl End {
     pub fn take(self, symbol: u16) -> Taken
         ensures { result ≡ take_of self symbol }
     {
-        if bad(self) {
+        let Some(good) = self.good() else {
             return Taken {
                 answer: Answer::BadEnd,
                 reason: Reason::Nothing,
                 end: self,
             };
-        }
+        };
         if symbol > frame::LARGEST {
             return Taken {
                 answer: Answer::BadSymbol,
@@ -31,37 +30,30 @@ impl End {
                 end: self,
             };
         }
-        taken(symbol, self)
+        good.taken(symbol)
     }
 }
 
-// The three steps, on the parts of the receiving side; what became of the collection is counted, and presence begins
-// anew or is one symbol older.
-fn taken(symbol: u16, mut end: End) -> Taken
-    requires { bad end ≡ false }
-    ensures { result ≡ took_of symbol end }
-{
-    let before = end.collector;
-    let last = end.heard;
-    let register = end.inbox;
-    let settled = settle(last, register);
-    let collector = collect(symbol, before);
-    let symbols = collector.symbols;
-    let reason = reason_of(symbol, before, symbols);
-    let accepted = frame::reason::is_accepted(reason);
-    let heard = hear(accepted, symbols, last);
-    let inbox = enter(accepted, symbols, settled);
-    let so_far = end.counts;
-    let counts = tally(reason, so_far);
-    let presence = left_after(accepted, end.presence);
-    end.collector = collector;
-    end.heard = heard;
-    end.inbox = inbox;
-    end.counts = counts;
-    end.presence = presence;
-    Taken {
-        answer: Answer::Done,
-        reason,
-        end,
+impl Good {
+    // The three steps, on the parts of the receiving side; what became of the collection is counted, and presence
+    // begins anew or is one symbol older.
+    fn taken(self, symbol: u16) -> Taken
+        ensures { result ≡ took_of symbol self.end }
+    {
+        let mut end = self.end;
+        let settled = settle(end.heard, end.inbox);
+        let collector = collect(symbol, end.collector);
+        let reason = reason_of(symbol, end.collector, collector.symbols);
+        let accepted = reason.is_accepted();
+        end.collector = collector;
+        end.heard = hear(accepted, collector.symbols, end.heard);
+        end.inbox = enter(accepted, collector.symbols, settled);
+        end.counts = tally(reason, end.counts);
+        end.presence = left_after(accepted, end.presence);
+        Taken {
+            answer: Answer::Done,
+            reason,
+            end,
+        }
     }
 }

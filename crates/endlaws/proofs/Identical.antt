@@ -13,7 +13,7 @@ use Rattle.end.proofs.End.read.Reads as read
 use Rattle.end.proofs.End.write.Reads as write
 use Rattle.end.proofs.End.set_health.Reads as health
 use Rattle.end.proofs.End.present.Reads as present
-use Rattle.answer.proofs.number.Reads as number
+use Rattle.answer.proofs.U8FromAnswer.from.Reads as number
 use Rattle.answer.specs.Number.{number_of}
 use Rattle.answer.specs.declared.Answer.{Answer}
 use Rattle.answer.specs.declared.Answer.TheVariants.{Done, BadEnd, NoRegister, ReadOnly, Blocked, BadSymbol}

@@ -1,44 +1,33 @@
 // Answer 1, and the end after reset.
-ghost use Rattle.std.specs.Prelude.{◌≡◌};
-ghost use Rattle.fibre.specs.Good.{bad, reset_of, no_block};
+ghost use Rattle.std.specs.Prelude.{◌≡◌, true, false, MatchOption};
+ghost use Rattle.fibre.specs.Good.{bad, reset_of};
 
-use crate::{Block, End, LARGEST, Receive, Transmit};
+use crate::{End, LARGEST};
+
+// An end that answer 1 does not meet.
+#[derive(Clone, Copy)]
+pub struct Good {
+    pub end: End,
+    ghost good: { bad end ≡ false },
+}
 
 impl End {
     // The end after reset: all is 0.
     pub fn reset() -> End
         ensures { result ≡ reset_of }
     {
-        let sent = no_block();
-        End {
-            transmit: Transmit {
-                txreq: false,
-                phyt: false,
-                mert: false,
-                control: 0,
-                words: [0; 8],
-            },
-            sent,
-            receive: Receive {
-                rxval: false,
-                toggle: false,
-                control: 0,
-                words: [0; 8],
-            },
-        }
+        End::default()
     }
-}
 
-// The block of a refused send: all is 0.
-pub fn no_block() -> Block
-    ensures { result ≡ no_block }
-{
-    Block {
-        msgt: false,
-        phyt: false,
-        mert: false,
-        control: 0,
-        words: [0; 8],
+    // The end, where answer 1 does not meet it.
+    pub(crate) fn good(self) -> Option<Good>
+        ensures { MatchOption result (bad self ≡ true) (λ good. good.end ≡ self) }
+    {
+        if bad(self) {
+            None
+        } else {
+            Some(Good { end: self })
+        }
     }
 }
 

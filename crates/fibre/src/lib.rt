@@ -19,7 +19,7 @@ pub const LARGEST: u16 = 4095;
 
 // What the host writes, words 0 to 8: a message of 140 bits, the request to send it, and what was last heard of the
 // partner's toggles. (MSGT, bit 12 of word 0, is the sent block's.)
-#[derive(Clone, Copy)]
+#[derive(Clone, Copy, Default)]
 pub struct Transmit {
     pub txreq: bool,
     pub phyt: bool,
@@ -30,7 +30,7 @@ pub struct Transmit {
 
 // What goes over the fibre: the message being sent, its toggle, and two toggles for the messages of the other way, the
 // last one received and the last one read by the host.
-#[derive(Clone, Copy)]
+#[derive(Clone, Copy, Default)]
 pub struct Block {
     pub msgt: bool,
     pub phyt: bool,
@@ -40,7 +40,7 @@ pub struct Block {
 }
 
 // What the host reads, words 9 to 17: the message received last, and whether it has yet to be read.
-#[derive(Clone, Copy)]
+#[derive(Clone, Copy, Default)]
 pub struct Receive {
     pub rxval: bool,
     pub toggle: bool,
@@ -49,12 +49,14 @@ pub struct Receive {
 }
 
 // The whole end. It sends the same block again and again, until a request brings the next message into it.
-#[derive(Clone, Copy)]
+#[derive(Clone, Copy, Default)]
 pub struct End {
     pub transmit: Transmit,
     pub sent: Block,
     pub receive: Receive,
 }
+
+// What the calls give. The next end comes out with the answer, where a call is refused too: so these are no Results.
 
 // What send gives: the block.
 #[derive(Clone, Copy)]

@@ -2,8 +2,8 @@
 ghost use Rattle.std.specs.Prelude.{◌≡◌};
 ghost use Rattle.fibre.specs.Sending.{loads, loaded, send_of};
 
-use crate::good::{bad, no_block};
-use crate::{End, Sent};
+use crate::good::bad;
+use crate::{Block, End, Sent, Transmit};
 use answer::Answer;
 
 impl End {
@@ -12,19 +12,17 @@ impl End {
         ensures { result ≡ send_of self }
     {
         if bad(self) {
-            let block = no_block();
             return Sent {
                 answer: Answer::BadEnd,
-                block,
+                block: Block::default(),
                 end: self,
             };
         }
-        let next = loaded(self);
-        let block = next.sent;
+        let end = loaded(self);
         Sent {
             answer: Answer::Done,
-            block,
-            end: next,
+            block: end.sent,
+            end,
         }
     }
 }
@@ -41,16 +39,11 @@ fn loaded(mut end: End) -> End
     ensures { result ≡ loaded (loads end) end }
 {
     if loads(end) {
-        let mut transmit = end.transmit;
-        let mut sent = end.sent;
-        let words = transmit.words;
-        sent.msgt = !sent.msgt;
-        sent.control = transmit.control;
-        sent.words = words;
-        transmit.txreq = false;
-        end.transmit = transmit;
-        end.sent = sent;
-        return end;
+        let Transmit { control, words, .. } = end.transmit;
+        end.sent.msgt = !end.sent.msgt;
+        end.sent.control = control;
+        end.sent.words = words;
+        end.transmit.txreq = false;
     }
     end
 }

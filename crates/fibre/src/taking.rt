@@ -23,11 +23,9 @@ impl End {
                 end: self,
             };
         }
-        let listening = heard(block, self);
-        let end = stored(block, listening);
         Next {
             answer: Answer::Done,
-            end,
+            end: stored(block, heard(block, self)),
         }
     }
 }
@@ -53,16 +51,19 @@ fn stored(block: Block, mut end: End) -> End
     ensures { result ≡ stored (enters block end) block end }
 {
     if enters(block, end) {
-        let words = block.words;
-        let receive = Receive {
+        let Block {
+            msgt,
+            control,
+            words,
+            ..
+        } = block;
+        end.receive = Receive {
             rxval: true,
-            toggle: block.msgt,
-            control: block.control,
+            toggle: msgt,
+            control,
             words,
         };
-        end.receive = receive;
-        end.sent.phyt = block.msgt;
-        return end;
+        end.sent.phyt = msgt;
     }
     end
 }

@@ -3,7 +3,7 @@ ghost use Rattle.std.specs.Prelude.{◌≡◌, ◌<◌};
 ghost use Rattle.fibre.specs.Words.{with_control, with_word, unless_requested, write_of};
 
 use crate::good::bad;
-use crate::words::{Word, named};
+use crate::words::Word;
 use crate::{End, Next};
 use answer::Answer;
 
@@ -19,26 +19,17 @@ impl End {
                 end: self,
             };
         }
-        let name = named(word);
-        match name {
-            Word::Control => {
-                let stored = with_control(self, value);
-                unless_requested(self, stored)
-            }
-            Word::Message(i) => {
-                let stored = with_word(self, i, value);
-                unless_requested(self, stored)
-            }
-            Word::Status => Next {
-                answer: Answer::ReadOnly,
-                end: self,
-            },
-            Word::Received(_) => Next {
-                answer: Answer::ReadOnly,
-                end: self,
-            },
-            Word::Outside => Next {
+        let Some(name) = Word::named(word) else {
+            return Next {
                 answer: Answer::NoRegister,
+                end: self,
+            };
+        };
+        match name {
+            Word::Control => unless_requested(self, with_control(self, value)),
+            Word::Message(i) => unless_requested(self, with_word(self, i, value)),
+            Word::Status | Word::Received(_) => Next {
+                answer: Answer::ReadOnly,
                 end: self,
             },
         }
@@ -65,10 +56,8 @@ fn unless_requested(end: End, stored: End) -> Next
 fn with_control(mut end: End, value: u16) -> End
     ensures { result ≡ with_control end value }
 {
-    let mut transmit = end.transmit;
-    transmit.txreq = value / 32768 % 2 == 1;
-    transmit.control = value % 4096;
-    end.transmit = transmit;
+    end.transmit.txreq = value / 32768 % 2 == 1;
+    end.transmit.control = value % 4096;
     end
 }
 
@@ -77,8 +66,6 @@ fn with_word(mut end: End, i: usize, value: u16) -> End
     requires { i < 8 }
     ensures { result ≡ with_word end i value }
 {
-    let mut transmit = end.transmit;
-    transmit.words[i] = value;
-    end.transmit = transmit;
+    end.transmit.words[i] = value;
     end
 }

@@ -2,20 +2,24 @@
 // line, and writes one line for each.
 #![tactic(auto)]
 
-mod serve;
 mod session;
 
+use fibrefields::block::Signal;
+use fibrelines::KEPT;
+use session::Bench;
+use text::output::Output;
+
 fn main(rt: HostRuntime) {
-    let mut text = [0u8; console::HELD];
-    let mut out = [0u8; console::GATHERED];
-    let mut to_a = [0u16; fibrelines::LINE];
-    let mut to_b = [0u16; fibrelines::LINE];
-    serve::serve(
-        rt.stdin(),
-        rt.stdout(),
-        &mut text,
-        &mut out,
-        &mut to_a,
-        &mut to_b,
-    );
+    let mut text = [0; console::HELD];
+    let mut bytes = [0; console::GATHERED];
+    let mut to_a = [Signal::default(); KEPT];
+    let mut to_b = [Signal::default(); KEPT];
+    let mut out = Output {
+        bytes: &mut bytes,
+        at: 0,
+    };
+    let mut bench = Bench {
+        link: fibrelines::joined(&mut to_a, &mut to_b),
+    };
+    console::serve(rt.stdin(), rt.stdout(), &mut text, &mut out, &mut bench);
 }

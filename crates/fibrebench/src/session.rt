@@ -1,101 +1,41 @@
 // A line's answer.
-ghost use Rattle.std.specs.Prelude.{◌≤◌, length};
-ghost use Rattle.console.specs.Ready.{Room};
-
-use consolecommands::command::Command;
+use console::Session;
+use consolecommands::command::Ends;
+use consolecommands::link::Link;
 use consolecommands::{Side, command};
-use fibrelines::{LINE, Link};
-use text::print;
+use fibrelines::Fibre;
+use text::output::Output;
 use text::words::first_word;
 
-// The link after a line, and where the output goes on.
-#[derive(Clone, Copy)]
-pub struct Answered {
-    pub link: Link,
-    pub at: usize,
+// What the console works on.
+#[derive(Drop)]
+pub struct Bench<'a> {
+    pub link: Link<'a, Fibre>,
 }
 
-// What a line, its newline taken off, does and prints.
-pub fn answer(
-    line: &[u8],
-    link: Link,
-    to_a: &mut [u16; LINE],
-    to_b: &mut [u16; LINE],
-    out: &mut [u8],
-    at: usize,
-) -> Answered
-    requires { Room at out.old }
-    ensures { result.at ≤ length out.new }
-{
-    let first = first_word(line, &command::COMMANDS);
-    let name = first.name;
-    let after = first.after;
-    if first.asks {
-        return asked(name, line, after, link, to_a, to_b, out, at);
-    }
-    Answered { link, at }
-}
-
-// The command of a name, whose other words stand from a place on.
-fn asked(
-    name: usize,
-    line: &[u8],
-    from: usize,
-    link: Link,
-    to_a: &mut [u16; LINE],
-    to_b: &mut [u16; LINE],
-    out: &mut [u8],
-    at: usize,
-) -> Answered
-    requires from_in_bounds { from ≤ length line.now }
-    requires room { Room at out.old }
-    ensures { result.at ≤ length out.new }
-{
-    match command::parsed(name, line, from) {
-        Command::Wrong(fault) => {
-            let put = print::fault(out, at, fault);
-            Answered { link, at: put }
+impl Session for Bench<'_> {
+    fn answer(&mut self, line: &[u8], out: &mut Output) {
+        if let Some((word, rest)) = first_word(line) {
+            command::perform(self, word, rest, out);
         }
-        Command::Link(delay_b, delay_a) => {
-            let next = fibrelines::start(delay_b, delay_a);
-            let put = print::text(out, at, b"ok\n");
-            Answered {
-                link: next,
-                at: put,
-            }
-        }
-        Command::Slot(count) => {
-            let next = fibrelines::after_slots(link, count, to_a, to_b);
-            let put = command::slotted(next.slots, out, at);
-            Answered {
-                link: next,
-                at: put,
-            }
-        }
-        Command::Mark(side, count) => {
-            let next = fibrelines::with_marks(link, side, count);
-            let put = print::text(out, at, b"ok\n");
-            Answered {
-                link: next,
-                at: put,
-            }
-        }
-        Command::On(side) => on_end(link, side, line, from, out, at),
     }
 }
 
-// What is asked of the end of a side, from a place on.
-fn on_end(link: Link, side: Side, line: &[u8], from: usize, out: &mut [u8], at: usize) -> Answered
-    requires from_in_bounds { from ≤ length line.now }
-    requires room { Room at out.old }
-    ensures { result.at ≤ length out.new }
-{
-    let end = fibrelines::end_of(link, side);
-    let done = fibreends::answered(end, line, from, out, at);
-    let next = done.end;
-    let after = fibrelines::with_end(link, side, next);
-    Answered {
-        link: after,
-        at: done.at,
+impl Ends for Bench<'_> {
+    fn restart(&mut self, to_b: u16, to_a: u16) {
+        self.link.restart(to_b, to_a);
+    }
+
+    fn slots(&mut self, count: u16) -> u64 {
+        self.link.slots(count)
+    }
+
+    fn mark(&mut self, side: Side, count: u16) {
+        self.link.mark(side, count);
+    }
+
+    fn on_end(&mut self, side: Side, rest: &[u8], out: &mut Output) {
+        let end = fibreends::answered(self.link.end_of(side), rest, out);
+        self.link.set_end(side, end);
     }
 }

@@ -1,98 +1,65 @@
 // What a line asks of an end.
-ghost use Rattle.std.specs.Prelude.{◌≤◌, length};
+ghost use Rattle.std.specs.Prelude.{IfOk};
+ghost use Rattle.fibrecommands.specs.Calls.{Bools, Within};
 
-use crate::fields;
-use consolecommands::numbers::{Element, Two, element_of, two_numbers};
+use crate::fields::Field;
+use consolecommands::alone::alone;
+use consolecommands::field::Setting;
+use consolecommands::numbers::two_numbers;
 use text::fault::Fault;
-use text::numbers::{DECIMAL, HEX, MOST, Number, last_number};
-use text::words::{is_last, next};
+use text::lists;
+use text::numbers::{DECIMAL, HEX};
+use text::words::next;
 
-// What was read whole, or what was wrong with it. What set writes is a field's place, the element, and the value.
+// How many numbers a block is on a line: whether it is marked bad, MSGT, PHYT, MERT, the control, and the eight words.
+pub const NUMBERS: usize = 13;
+
+// How many of them, the first ones, say yes or no.
+const BOOLS: usize = 4;
+
+// A call on an end with what stands behind its name, or what the console does with an end itself: dump and set.
 #[derive(Clone, Copy)]
 pub enum Call {
-    Wrong(Fault),
     Reset,
     Send,
+    Take([u16; NUMBERS]),
     Read(u16),
     Write(u16, u16),
     Dump,
-    Set(usize, usize, u16),
+    Set(Setting<Field>),
 }
 
-// What a line can ask of an end, and the place of each name. Take comes last: its block is a list of its own.
-pub const CALLS: [u8; 35] = *b"reset send read write dump set take";
-
-const RESET: usize = 0;
-
-const SEND: usize = 1;
-
-const READ: usize = 2;
-
-const WRITE: usize = 3;
-
-const DUMP: usize = 4;
-
-const SET: usize = 5;
-
-pub const TAKE: usize = 6;
-
-// What that name asks, whose other words stand from a place on.
-pub fn parsed(name: usize, line: &[u8], from: usize) -> Call
-    requires { from ≤ length line.now }
+// What a line asks for.
+pub fn parsed(line: &[u8]) -> Result<Call, Fault>
+    ensures { IfOk result Within }
 {
+    let (name, rest) = next(line).ok_or(Fault::Call)?;
     match name {
-        RESET => bare(Call::Reset, line, from),
-        SEND => bare(Call::Send, line, from),
-        READ => read(line, from),
-        WRITE => write(line, from),
-        DUMP => bare(Call::Dump, line, from),
-        SET => set(line, from),
-        _ => Call::Wrong(Fault::Call),
+        b"reset" => alone(Call::Reset, rest),
+        b"send" => alone(Call::Send, rest),
+        b"take" => Ok(Call::Take(block(rest)?)),
+        b"read" => Ok(Call::Read(DECIMAL.last(rest)?)),
+        b"write" => {
+            let (word, value) = two_numbers(rest, DECIMAL, HEX)?;
+            Ok(Call::Write(word, value))
+        }
+        b"dump" => alone(Call::Dump, rest),
+        b"set" => Ok(Call::Set(Setting::read(rest)?)),
+        _ => Err(Fault::Call),
     }
 }
 
-// What takes no further word.
-fn bare(call: Call, line: &[u8], from: usize) -> Call
-    requires { from ≤ length line.now }
+// A block's numbers. One that says yes or no is 0 or 1.
+fn block(line: &[u8]) -> Result<[u16; NUMBERS], Fault>
+    ensures { IfOk result Bools }
 {
-    if is_last(line, from) {
-        return call;
+    let mut numbers = [0; NUMBERS];
+    if lists::read(line, 65535, &mut numbers)? < NUMBERS {
+        return Err(Fault::Missing);
     }
-    Call::Wrong(Fault::Extra)
-}
-
-fn read(line: &[u8], from: usize) -> Call
-    requires { from ≤ length line.now }
-{
-    match last_number(line, from, DECIMAL, MOST) {
-        Number::Wrong(fault) => Call::Wrong(fault),
-        Number::Value(word) => Call::Read(word),
-    }
-}
-
-fn write(line: &[u8], from: usize) -> Call
-    requires { from ≤ length line.now }
-{
-    match two_numbers(line, from, MOST, HEX) {
-        Two::Wrong(fault) => Call::Wrong(fault),
-        Two::Values(word, value) => Call::Write(word, value),
-    }
-}
-
-fn set(line: &[u8], from: usize) -> Call
-    requires { from ≤ length line.now }
-{
-    let word = next(line, from);
-    let start = word.start;
-    let end = word.end;
-    let field = fields::field_of(&line[start..end]);
-    if field >= fields::FIELDS {
-        return Call::Wrong(Fault::Field);
-    }
-    let count = fields::elements(field);
-    let most = fields::largest(field);
-    match element_of(count, most, line, end) {
-        Element::Wrong(fault) => Call::Wrong(fault),
-        Element::At(i, value) => Call::Set(field, i, value),
+    if numbers[..BOOLS].iter().all(|number| *number <= 1) {
+        Ok(numbers)
+    } else {
+        Err(Fault::TooLarge)
     }
 }

@@ -1,80 +1,95 @@
-// The fields of an end, by name and by place: what dump prints and set writes.
-ghost use Rattle.std.specs.Prelude.{◌≤◌};
+// The fields of an end, by name: what dump prints and set writes.
+ghost use Rattle.fibrecommands.specs.Fields.{all_of, elements_of, largest_of, name_of};
 
-use text::numbers::MOST;
-use text::words::index_of;
+use consolecommands::field;
 
-// The names, in dump's order, and the place of each.
-pub const NAMES: [u8; 119] = *b"txreq phyt mert control words \
-    sent_msgt sent_phyt sent_mert sent_control sent_words \
-    rxval rx_toggle rx_control rx_words";
-
-pub const TXREQ: usize = 0;
-
-pub const PHYT: usize = 1;
-
-pub const MERT: usize = 2;
-
-pub const CONTROL: usize = 3;
-
-pub const WORDS: usize = 4;
-
-pub const SENT_MSGT: usize = 5;
-
-pub const SENT_PHYT: usize = 6;
-
-pub const SENT_MERT: usize = 7;
-
-pub const SENT_CONTROL: usize = 8;
-
-pub const SENT_WORDS: usize = 9;
-
-pub const RXVAL: usize = 10;
-
-pub const RX_TOGGLE: usize = 11;
-
-pub const RX_CONTROL: usize = 12;
-
-pub const RX_WORDS: usize = 13;
-
-pub const FIELDS: usize = 14;
-
-// How many elements all fields have together.
-pub const VALUES: usize = 35;
-
-// The field of a name; FIELDS or more where there is none.
-pub fn field_of(word: &[u8]) -> usize {
-    index_of(&NAMES, word)
+// A field of an end. Dump prints them in the order of FIELDS.
+#[derive(Clone, Copy, Debug, PartialEq, Eq)]
+pub enum Field {
+    Txreq,
+    Phyt,
+    Mert,
+    Control,
+    Words,
+    SentMsgt,
+    SentPhyt,
+    SentMert,
+    SentControl,
+    SentWords,
+    Rxval,
+    RxToggle,
+    RxControl,
+    RxWords,
 }
 
-// How many elements each field has, in the order of the names: 1 where it is no array.
-pub fn counts() -> [u8; FIELDS] {
-    let mut each = [1u8; FIELDS];
-    each[WORDS] = 8;
-    each[SENT_WORDS] = 8;
-    each[RX_WORDS] = 8;
-    each
-}
+// All fields, in dump's order.
+static FIELDS: [Field; 14] = [
+    Field::Txreq,
+    Field::Phyt,
+    Field::Mert,
+    Field::Control,
+    Field::Words,
+    Field::SentMsgt,
+    Field::SentPhyt,
+    Field::SentMert,
+    Field::SentControl,
+    Field::SentWords,
+    Field::Rxval,
+    Field::RxToggle,
+    Field::RxControl,
+    Field::RxWords,
+];
 
-// How many elements a field has; 1 where there is no such field.
-pub fn elements(field: usize) -> usize {
-    let each = counts();
-    if field < FIELDS {
-        return wide(each[field]);
+impl field::Field for Field {
+    ghost all_of = { all_of };
+
+    ghost name_of = { name_of };
+
+    ghost elements_of = { elements_of };
+
+    ghost largest_of = { largest_of };
+
+    fn all() -> &'static [Field] {
+        &FIELDS
     }
-    1
-}
 
-fn wide(count: u8) -> usize {
-    count as usize
-}
+    fn name(self) -> &'static [u8] {
+        match self {
+            Field::Txreq => b"txreq",
+            Field::Phyt => b"phyt",
+            Field::Mert => b"mert",
+            Field::Control => b"control",
+            Field::Words => b"words",
+            Field::SentMsgt => b"sent_msgt",
+            Field::SentPhyt => b"sent_phyt",
+            Field::SentMert => b"sent_mert",
+            Field::SentControl => b"sent_control",
+            Field::SentWords => b"sent_words",
+            Field::Rxval => b"rxval",
+            Field::RxToggle => b"rx_toggle",
+            Field::RxControl => b"rx_control",
+            Field::RxWords => b"rx_words",
+        }
+    }
 
-// The largest value of a field: a control or a word sixteen bits, a bool 1.
-pub fn largest(field: usize) -> u64
-    ensures { result ≤ 65535 }
-{
-    match field {
-        CONTROL | WORDS | SENT_CONTROL | SENT_WORDS | RX_CONTROL | RX_WORDS => MOST,
-        _ => 1,
+    // 1 where a field is no array.
+    fn elements(self) -> usize {
+        match self {
+            Field::Words | Field::SentWords | Field::RxWords => 8,
+            _ => 1,
+        }
+    }
+
+    // A control or a word has sixteen bits, a bool one.
+    fn largest(self) -> u64 {
+        match self {
+            Field::Control
+            | Field::Words
+            | Field::SentControl
+            | Field::SentWords
+            | Field::RxControl
+            | Field::RxWords => 65535,
+            _ => 1,
+        }
     }
 }

@@ -2,58 +2,79 @@
 ghost use Rattle.std.specs.Prelude.{◌≡◌};
 ghost use Rattle.fibrefields.specs.Numbers.{block_of, marked_of, numbers_of};
 
-use crate::bit;
 use fibre::Block;
+use fibrecommands::call::NUMBERS;
 
-// How many numbers a block is: whether it is marked bad, MSGT, PHYT, MERT, the control, and the eight words. A bool is
-// 0 or 1.
-pub const NUMBERS: usize = 13;
+// What goes over a fibre in a slot: a block, and whether it is marked bad.
+#[derive(Clone, Copy, Default)]
+pub struct Signal {
+    pub marked: bool,
+    pub block: Block,
+}
 
-pub fn numbers_of(marked: bool, block: Block) -> [u16; NUMBERS]
-    ensures { result ≡ numbers_of marked block }
+// A bool is 0 or 1.
+pub fn numbers_of(signal: Signal) -> [u16; NUMBERS]
+    ensures { result ≡ numbers_of signal.marked signal.block }
 {
-    let words = block.words;
+    let block = signal.block;
+    let [
+        word_1,
+        word_2,
+        word_3,
+        word_4,
+        word_5,
+        word_6,
+        word_7,
+        word_8,
+    ] = block.words;
     [
-        bit(marked),
-        bit(block.msgt),
-        bit(block.phyt),
-        bit(block.mert),
+        u16::from(signal.marked),
+        u16::from(block.msgt),
+        u16::from(block.phyt),
+        u16::from(block.mert),
         block.control,
-        words[0],
-        words[1],
-        words[2],
-        words[3],
-        words[4],
-        words[5],
-        words[6],
-        words[7],
+        word_1,
+        word_2,
+        word_3,
+        word_4,
+        word_5,
+        word_6,
+        word_7,
+        word_8,
     ]
 }
 
-pub fn is_marked(numbers: [u16; NUMBERS]) -> bool
-    ensures { result ≡ marked_of numbers }
-{
-    numbers[0] == 1
-}
-
-pub fn block_of(numbers: [u16; NUMBERS]) -> Block
-    ensures { result ≡ block_of numbers }
-{
-    let words = [
-        numbers[5],
-        numbers[6],
-        numbers[7],
-        numbers[8],
-        numbers[9],
-        numbers[10],
-        numbers[11],
-        numbers[12],
-    ];
-    Block {
-        msgt: numbers[1] == 1,
-        phyt: numbers[2] == 1,
-        mert: numbers[3] == 1,
-        control: numbers[4],
-        words,
+impl From<[u16; NUMBERS]> for Signal {
+    fn from(numbers: [u16; NUMBERS]) -> Signal
+        ensures marked { result.marked ≡ marked_of numbers }
+        ensures block { result.block ≡ block_of numbers }
+    {
+        let [
+            marked,
+            msgt,
+            phyt,
+            mert,
+            control,
+            word_1,
+            word_2,
+            word_3,
+            word_4,
+            word_5,
+            word_6,
+            word_7,
+            word_8,
+        ] = numbers;
+        Signal {
+            marked: marked == 1,
+            block: Block {
+                msgt: msgt == 1,
+                phyt: phyt == 1,
+                mert: mert == 1,
+                control,
+                words: [
+                    word_1, word_2, word_3, word_4, word_5, word_6, word_7, word_8,
+                ],
+            },
+        }
     }
 }

@@ -9,8 +9,8 @@ use mathlib.Core.Bool.{Bool, true, false, not, ◌&&◌, ◌||◌, cond, true≢
 use mathlib.Core.List.{List, [], ◌∷◌}
 use mathlib.Core.Logic.{◌↔◌, ◌≢◌}
 use mathlib.Core.Path.{◌≡◌, refl, ap, sym, ◌∙◌}
-use borrow.Author.Tests.{leb-true, leb-false, le-leb, lt-leb}
-use lib.Dec.{leb, lit<}
+use borrow.Author.Tests.{eqb-true, eqb-false, leb-true, leb-false, le-leb, lt-leb}
+use lib.Dec.{eqb, leb, lit<}
 use lib.ListN.{length, take, drop, length-take, length-drop}
 use Rattle.answer.specs.Number.{number_of}
 use Rattle.answer.specs.declared.Answer.TheVariants.{NothingFound}
@@ -191,20 +191,21 @@ module _ (l : List ℕ) (e : number_of (find_of l).answer ≢ 0) where
 -- ---------------------------------------------------------------- the ways out of `find`
 
 module _ (l : List ℕ) (f : Found) (s : f ≡ find_of l) where
-  zero_is : (n : ℕ) → n ≡ number_of f.answer → n ≡ 0 → number_of (find_of l).answer ≡ 0
-  zero_is n e z = ap (λ (g : Found). number_of g.answer) (sym s) ∙ sym e ∙ z
+  module _ (e : eqb (number_of f.answer) 0 ≡ true) where
+    zero_is : number_of (find_of l).answer ≡ 0
+    zero_is = ap (λ (g : Found). number_of g.answer) (sym s) ∙ eqb-true (number_of f.answer) 0 e
 
-  pub found_inside : (n : ℕ) → n ≡ number_of f.answer → n ≡ 0 → f.place + 12 ≤ length l
-  found_inside n e z = rw s (passes_length l (find_of l).place (find_passes l (zero_is n e z)))
+    pub found_inside : f.place + 12 ≤ length l
+    found_inside = rw s (passes_length l (find_of l).place (find_passes l zero_is))
 
-  pub found_part : (n : ℕ) → n ≡ number_of f.answer → n ≡ 0
-      → take (f.place + 12 - f.place) (drop f.place l) ≡ stretch_of l
-  found_part n e z =
-      ap (λ (k : ℕ). take k (drop f.place l)) (add-sub_cancel_left f.place 12)
-      ∙ ap (λ (g : Found). take 12 (drop g.place l)) s
-      ∙ sym (find_stretch l (zero_is n e z))
+    pub found_part : take (f.place + 12 - f.place) (drop f.place l) ≡ stretch_of l
+    found_part =
+        ap (λ (k : ℕ). take k (drop f.place l)) (add-sub_cancel_left f.place 12)
+        ∙ ap (λ (g : Found). take 12 (drop g.place l)) s
+        ∙ sym (find_stretch l zero_is)
 
-  pub found_nothing : (n : ℕ) → n ≡ number_of f.answer → (n ≡ 0 → ⊥) → ([] ≡ stretch_of l) × (0 ≡ (find_of l).place)
-  found_nothing n e z =
-      let r : number_of (find_of l).answer ≢ 0 = λ d. z (e ∙ ap (λ (g : Found). number_of g.answer) s ∙ d) in
+  pub found_nothing : eqb (number_of f.answer) 0 ≡ false → ([] ≡ stretch_of l) × (0 ≡ (find_of l).place)
+  found_nothing e =
+      let r : number_of (find_of l).answer ≢ 0 =
+      λ d. eqb-false (number_of f.answer) 0 e (ap (λ (g : Found). number_of g.answer) s ∙ d) in
       (sym (refused_stretch l r), sym (refused_place l r))

@@ -11,7 +11,8 @@ use answer::Answer;
 // The longest list that is searched, as request #102 has it.
 const LIMIT: usize = 32768;
 
-// The answer to a search, and the place of what was found: 0 on refusal.
+// The answer to a search, one of the table's, and the place of what was found: 0 on refusal, as `find_of` says. So it
+// is no Result.
 #[derive(Clone, Copy)]
 pub struct Found {
     pub answer: Answer,
@@ -24,11 +25,7 @@ pub struct Found {
 fn stands(symbol: u16, k: usize) -> bool
     ensures { result ≡ right_at k symbol }
 {
-    if frame::MARKED <= symbol {
-        return false;
-    }
-    let first = k == 0;
-    frame::parity(symbol) != first
+    symbol < frame::MARKED && frame::parity(symbol) != (k == 0)
 }
 
 // How many places a fault rules out. Of twelve symbols this one, at place k, may not stand there, and those behind it
@@ -37,13 +34,11 @@ fn stands(symbol: u16, k: usize) -> bool
 fn ruled_out(symbol: u16, k: usize) -> usize
     ensures { result ≡ ruled_out symbol k }
 {
-    if frame::MARKED <= symbol {
-        return frame::SYMBOLS;
+    if symbol < frame::MARKED && k > 0 {
+        k
+    } else {
+        frame::SYMBOLS
     }
-    if k == 0 {
-        return frame::SYMBOLS;
-    }
-    k
 }
 
 // The answer, and the smallest place where twelve symbols pass.
@@ -56,7 +51,7 @@ pub fn place(list: &[u16]) -> Found
             place: 0,
         };
     }
-    if frame::some_above(list) {
+    if frame::above(frame::LARGEST, list) {
         return Found {
             answer: Answer::BadSymbol,
             place: 0,
@@ -64,37 +59,29 @@ pub fn place(list: &[u16]) -> Found
     }
     let mut symbols = [0u16; 12];
     let mut at = 0;
-    let mut found = false;
+    // No `for`, as it goes on by one to twelve places; over `first_chunk` the place would be carried by hand as well.
     'places: while at + frame::SYMBOLS <= list.len() {
-        // From the last of the twelve to the first: those behind a fault are then known to start no frame.
-        let mut left = frame::SYMBOLS;
-        while 0 < left {
-            let k = left - 1;
+        // From the last of the twelve to the first: those behind a fault are then known to start no frame. Each is
+        // stored once it may stand where it does: an array of the twelve made beforehand would cost the search a fifth.
+        for k in (0..frame::SYMBOLS).rev() {
             let symbol = list[at + k];
-            if stands(symbol, k) {
-                symbols[k] = symbol;
-                left = k;
-            } else {
+            if !stands(symbol, k) {
                 at += ruled_out(symbol, k);
                 continue 'places;
             }
+            symbols[k] = symbol;
         }
         if frame::crc_right(symbols) {
-            found = true;
-            break 'places;
+            return Found {
+                answer: Answer::Done,
+                place: at,
+            };
         }
         at += frame::SYMBOLS;
     }
-    if found {
-        Found {
-            answer: Answer::Done,
-            place: at,
-        }
-    } else {
-        Found {
-            answer: Answer::NothingFound,
-            place: 0,
-        }
+    Found {
+        answer: Answer::NothingFound,
+        place: 0,
     }
 }
 
@@ -105,10 +92,8 @@ pub fn find(list: &[u16]) -> &[u16]
     ensures offset { result.ref_ptr.1 ≡ (find_of list.now).place * 2 + list.entry.ref_ptr.1 }
 {
     let found = place(list);
-    let at = found.place;
-    let answer = found.answer;
-    if answer::number(answer) == 0 {
-        &list[at..at + frame::SYMBOLS]
+    if found.answer == Answer::Done {
+        &list[found.place..found.place + frame::SYMBOLS]
     } else {
         &list[0..0]
     }

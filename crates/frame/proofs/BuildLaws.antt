@@ -1,51 +1,57 @@
 -- The turns of the loops in `build` and `crc_right`: the symbols or bytes stored so far and those still to come are the
 -- whole. Assumes nothing.
-use Prim.Native.Nat.{ℕ, ◌+◌, ◌*◌, ◌/◌, ◌%◌, ◌<◌}
+use Prim.Native.Nat.{ℕ, zero, suc, ◌+◌, ◌*◌, ◌/◌, ◌%◌, ◌<◌}
 use native.Mathlib.Omega.{arith}
 use mathlib.Core.List.{List, [], ◌∷◌, ◌++◌, map}
-use mathlib.Core.Path.{◌≡◌, ap, sym, ◌∙◌}
-use lib.Dec.{eqb, lit<, lit≤}
-use lib.ListN.{length, take, drop, set, get_or, replicate, length-set, get_or-append}
+use mathlib.Core.Bool.{true}
+use mathlib.Core.Path.{◌≡◌, refl, ap, ap₂, sym, ◌∙◌}
+use borrow.Author.Tests.{lt-ltb}
+use lib.Dec.{eqb, ltb, lit<, lit≤}
+use lib.ListN.{length, take, drop, set, get_or, length-set, get_or-append}
 use lib.Seq.{take_at, take_all, get_or-append-add}
-use Rattle.frame.specs.Frame.{crc_of, data_of, even_symbol, odd_symbol, symbols, build, crc_right}
-use Rattle.laws.proofs.Lists.{fill_map, fill_map_end}
-use Rattle.frame.proofs.FrameLaws.{crc_of_below, crc_bytes, build_symbols, with_crc_length}
+use Rattle.std.proofs.lemmas.List.{get_or-map}
+use Rattle.frame.specs.Frame.{crc_of, data_of, odd_symbol, symbols, build, crc_right}
+use Rattle.laws.proofs.Lists.{fill_copy, fill_copy_end}
+use Rattle.frame.proofs.FrameLaws.{symbol_for, crc_of_below, crc_bytes, build_symbols, with_crc_length, build_length}
 
--- the first i symbols of s, and the odd symbols of what is left of the bytes and their CRC, are the frame
+-- the first i symbols of s, and what is left of the frame, are the frame
 abbrev pub Building : List ℕ → List ℕ → ℕ → Type 0
-Building l s i = take i s ++ map odd_symbol (drop i (l ++ crc_bytes l)) ≡ build l
+Building l s i = take i s ++ drop i (build l) ≡ build l
 
-pub build_start : (l : List ℕ) (x : ℕ) → length l ≡ 10 → x ≡ even_symbol (get_or l 0 0)
-    → Building l (set (replicate 12 0) 0 x) 1
+symbols_at : (l : List ℕ) (i : ℕ) → i < length l → get_or (symbols l) i 0 ≡ symbol_for (ltb 0 i) (get_or l i 0)
 unfolding symbols
-build_start [] x n e = absurd (omega arith)
-build_start (d ∷ l) x n e =
-    ap (λ (y : ℕ). y ∷ map odd_symbol (l ++ crc_bytes (d ∷ l))) e ∙ sym (build_symbols (d ∷ l))
+symbols_at [] i h = absurd (omega arith)
+symbols_at (d ∷ l) zero h = refl
+symbols_at (d ∷ l) (suc i) h = rw (lt-ltb 0 (suc i) (omega arith)) (get_or-map odd_symbol l i 0 0 (omega arith))
 
-pub build_more : (l s : List ℕ) (i x : ℕ) → length l ≡ 10 → length s ≡ 12 → i < 10 → x ≡ odd_symbol (get_or l i 0)
-    → Building l s i → Building l (set s i x) (i + 1)
+-- the symbol of the byte at place i: one of the ten, or of the CRC's two
+placed : (l s : List ℕ) (i x : ℕ) → length l ≡ 10 → length s ≡ 12 → i < 12
+    → x ≡ symbol_for (ltb 0 i) (get_or (l ++ crc_bytes l) i 0) → Building l s i → Building l (set s i x) (i + 1)
+placed l s i x n m h e b =
+    rw (e ∙ sym (symbols_at (l ++ crc_bytes l) i (rw (with_crc_length l n) h)) ∙ ap (λ (t : List ℕ). get_or t i 0) (sym (build_symbols l)))
+    (fill_copy (build l) s (build l) i (rw (build_length l n) h) (rw m h) b)
+
+pub build_more : (l s : List ℕ) (i x : ℕ) → length l ≡ 10 → length s ≡ 12 → i < 10
+    → x ≡ symbol_for (ltb 0 i) (get_or l i 0) → Building l s i → Building l (set s i x) (i + 1)
 build_more l s i x n m h e b =
-    fill_map odd_symbol (l ++ crc_bytes l) s (build l) i x (rw (with_crc_length l n) (omega arith)) (rw m (omega arith))
-    (e ∙ ap odd_symbol (sym (get_or-append l (crc_bytes l) 0 i (rw n h))))
-    b
+    placed l s i x n m (omega arith)
+    (e ∙ ap (symbol_for (ltb 0 i)) (sym (get_or-append l (crc_bytes l) 0 i (rw n h)))) b
 
 -- the two bytes of the CRC
 crc_at : (l : List ℕ) (i : ℕ) → length l ≡ 10 → get_or (l ++ crc_bytes l) (10 + i) 0 ≡ get_or (crc_bytes l) i 0
 crc_at l i n = ap (λ (k : ℕ). get_or (l ++ crc_bytes l) (k + i) 0) (sym n) ∙ get_or-append-add l (crc_bytes l) i 0
 
-pub build_last : (l s : List ℕ) (i c x y : ℕ) → i ≡ 10 → length l ≡ 10 → length s ≡ 12 → c ≡ crc_of l
-    → x ≡ odd_symbol (c % 256)
-    → y ≡ odd_symbol (c / 256 % 256) → Building l s i → set (set s 10 x) 11 y ≡ build l
+pub build_last : (l s : List ℕ) (c x y : ℕ) → length l ≡ 10 → length s ≡ 12 → c ≡ crc_of l
+    → x ≡ symbol_for true (c % 256)
+    → y ≡ symbol_for true (c / 256 % 256) → Building l s 10 → set (set s 10 x) 11 y ≡ build l
 unfolding crc_bytes
-build_last l s i c x y t n m e u v b =
-    fill_map_end odd_symbol (l ++ crc_bytes l) (set (set s 10 x) 11 y) (build l) 12
-    (rw (with_crc_length l n) (lit≤ tt)) (rw (length-set, length-set, m) (lit≤ tt))
-    (fill_map odd_symbol (l ++ crc_bytes l) (set s 10 x) (build l) 11 y (rw (with_crc_length l n) (lit< tt))
-    (rw (length-set, m) (lit< tt))
+build_last l s c x y n m e u v b =
+    fill_copy_end (build l) (set (set s 10 x) 11 y) (build l) 12
+    (rw (build_length l n) (lit≤ tt)) (rw (length-set, length-set, m) (lit≤ tt))
+    (placed l (set s 10 x) 11 y n (length-set s 10 x ∙ m) (lit< tt)
     (v ∙ ap odd_symbol (ap (λ (k : ℕ). k / 256 % 256) e ∙ high (crc_of l) (crc_of_below l) ∙ sym (crc_at l 1 n)))
-    (fill_map odd_symbol (l ++ crc_bytes l) s (build l) 10 x (rw (with_crc_length l n) (lit< tt)) (rw m (lit< tt))
-    (u ∙ ap odd_symbol (ap (λ (k : ℕ). k % 256) e ∙ sym (crc_at l 0 n)))
-    (rw t at b)))
+    (placed l s 10 x n m (lit< tt)
+    (u ∙ ap odd_symbol (ap (λ (k : ℕ). k % 256) e ∙ sym (crc_at l 0 n))) b))
   where
     high : (k : ℕ) → k < 65536 → k / 256 % 256 ≡ k / 256
     high k h = omega arith
@@ -54,15 +60,11 @@ build_last l s i c x y t n m e u v b =
 abbrev pub Reading : List ℕ → List ℕ → ℕ → Type 0
 Reading l s i = take i s ++ map data_of (drop i l) ≡ map data_of l
 
-pub data_more : (l s : List ℕ) (i x : ℕ) → length l ≡ 12 → length s ≡ 10 → i < 10 → x ≡ data_of (get_or l i 0)
-    → Reading l s i → Reading l (set s i x) (i + 1)
-data_more l s i x n m h e b = fill_map data_of l s (map data_of l) i x (rw n (omega arith)) (rw m h) e b
-
 pub data_last : (l s : List ℕ) (i c : ℕ) → i ≡ 10 → length s ≡ 10 → c ≡ crc_of s → Reading l s i
-    → eqb c (data_of (get_or l 10 0) + 256 * data_of (get_or l 11 0)) ≡ crc_right l
+    → eqb c (data_of (get_or l 10 0) + data_of (get_or l 11 0) * 256) ≡ crc_right l
 unfolding crc_right
 data_last l s i c t m e b =
-    ap (λ (k : ℕ). eqb k (data_of (get_or l 10 0) + 256 * data_of (get_or l 11 0))) (e ∙ ap crc_of bytes)
+    ap₂ eqb (e ∙ ap crc_of bytes) (omega arith)
   where
     bytes : s ≡ take 10 (map data_of l)
     bytes =

@@ -3,7 +3,7 @@
 use Prim.Native.Nat.{ℕ, zero, suc, ◌+◌, ◌*◌, ◌/◌, ◌%◌, ◌^◌, ◌<◌}
 use native.Mathlib.Nat.{le_of_suc-le-suc}
 use native.Mathlib.Omega.{arith}
-use mathlib.Core.Bool.{Bool, true, false, not, xor, cond}
+use mathlib.Core.Bool.{Bool, true, false, not, xor, cond, beq}
 use mathlib.Core.List.{List, [], ◌∷◌, ◌++◌, map, append_assoc, append-nil}
 use mathlib.Core.Path.{◌≡◌, refl, ap, ap₂, sym, ◌∙◌}
 use borrow.Author.Tests.{eq-eqb, lt-leb}
@@ -108,6 +108,18 @@ odd_symbol_number d b h e =
     turned : (b : Bool) → d + cond b 0 256 ≡ d + cond (not b) 256 0
     turned true = refl
     turned false = refl
+
+-- the symbol with data d and an odd (q) or an even number of ones
+abbrev pub symbol_for : Bool → ℕ → ℕ
+symbol_for q d = cond q (odd_symbol d) (even_symbol d)
+
+-- bit 8 is set where the data's own ones (p) are not what is wanted
+pub symbol_compared : (d : ℕ) (p q : Bool) → d < 256 → p ≡ odd_ones (bits 9 d)
+    → d + cond (beq p q) 0 256 ≡ symbol_for q d
+symbol_compared d true true h e = odd_symbol_number d true h e
+symbol_compared d false true h e = odd_symbol_number d false h e
+symbol_compared d true false h e = even_symbol_number d true h e
+symbol_compared d false false h e = even_symbol_number d false h e
 
 pub even_symbol_below : (d : ℕ) → even_symbol d < 512
 unfolding even_symbol symbol

@@ -13,11 +13,11 @@ use Rattle.frame.proofs.crc.Reads as crc
 use Rattle.frame.proofs.build.Reads as build
 use Rattle.frame.proofs.crc_right.Reads as crc-right
 use Rattle.frame.proofs.right_at.Reads as right_at_lem
-use Rattle.frame.proofs.some_above.Reads as some-above
+use Rattle.frame.proofs.above.Reads as above
 use Rattle.frame.proofs.check.Reads as check
-use Rattle.frame.proofs.reason.number.Reads as number
-use Rattle.frame.proofs.reason.place.Reads as place
-use Rattle.frame.proofs.reason.is_accepted.Reads as is-accepted
+use Rattle.frame.proofs.reason.U8FromReason.from.Reads as number
+use Rattle.frame.proofs.reason.Reason.place.Reads as place
+use Rattle.frame.proofs.reason.Reason.is_accepted.Reads as is-accepted
 
 pub parity_identical : Identical parity.Post
 parity_identical κs a x y s e f = e ∙ sym f
@@ -34,8 +34,8 @@ crc_right_identical κs a x y s e f = e ∙ sym f
 pub right_at_identical : Identical right_at_lem.Post
 right_at_identical κs a x y s e f = e ∙ sym f
 
-pub some_above_identical : Identical some-above.Post
-some_above_identical κs a x y s e f = e ∙ sym f
+pub above_identical : Identical above.Post
+above_identical κs a x y s e f = e ∙ sym f
 
 pub check_identical : Identical check.Post
 check_identical κs a x y s e f = e ∙ sym f

@@ -54,3 +54,11 @@ crc_words a b c p h i j e =
         sym
         (ap (plus (bits 16 r)) (times_false factor)
         ∙ plus_zeros (bits 16 r) (length factor) (bits_length 16 r ∙ sym (bits_length 16 FACTOR)))
+
+-- the same of the words as the code widens them
+pub crc_widened : (first second third a b c d r : ℕ) (p : Bool) → first < 2 ^ 32 → second < 2 ^ 32 → third < 2 ^ 16
+    → a ≡ first → b ≡ second → c ≡ third → d ≡ third → r ≡ remainder a b c
+    → p ≡ odd_ones (bits 32 (bit_xor (bit_xor (bit_xor first second) d) r))
+    → bits 16 (cond p (bit_xor (remainder a b c) FACTOR) (remainder a b c)) ≡ crc generator (message first second third)
+crc_widened first second third a b c d r p h i j ea eb ec ed er e =
+    rw (ea, eb, ec) (crc_words first second third p h i j (rw (ed, er, ea, eb, ec) at e))

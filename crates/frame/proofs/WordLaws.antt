@@ -21,6 +21,9 @@ use lib.Seq.{take_at, drop_at, drop-cons}
 use Rattle.crc.specs.Bits.{bits, number, odd_ones}
 use Rattle.crc.specs.Crc.{plus, crc}
 use Rattle.frame.specs.Frame.{generator, stream, crc_of}
+use Rattle.crc.proofs.BitsLaws.{bits_join}
+use Rattle.frame.proofs.FrameLaws.{stream_append}
+use Rattle.std.specs.Int.{w16, w32, from_le_bytes}
 use Rattle.crc.proofs.BitsLaws.{xor_assoc, bits_length, number_bits, bits_append, bits_part, bits_mod, bits_mod_more}
 use Rattle.crc.proofs.BitsLaws.{bits_above, bits_up, bits_xor, odd_ones_append, odd_ones_above, odd_ones_xor}
 use Rattle.crc.proofs.LinearLaws.{Linear, linear_then, copy, linear_copy, linear_and, with_parity, linear_parity}
@@ -236,6 +239,58 @@ stream_from (suc k) i l e =
     ap stream (drop-cons l i 0 (omega arith))
     ∙ ap (λ (s : List Bool). bits 8 (get_or l i 0) ++ s) (stream_from k (suc i) l (omega arith))
 
+-- two and four bytes, the first one lowest
+pub two_bytes : (l : List ℕ) → length l ≡ 2 → get_or l 0 0 < 256 → bits 16 (from_le_bytes w16 l) ≡ stream l
+unfolding stream
+two_bytes [] n h = absurd (omega arith)
+two_bytes (a ∷ []) n h = absurd (omega arith)
+two_bytes (a ∷ b ∷ []) n h = bits_join 8 8 a b h ∙ ap (λ (s : List Bool). bits 8 a ++ s) (sym (append-nil (bits 8 b)))
+two_bytes (a ∷ b ∷ c ∷ l) n h = absurd (omega arith)
+
+pub four_bytes : (l : List ℕ) → length l ≡ 4 → ((i : ℕ) → get_or l i 0 < 256) → bits 32 (from_le_bytes w32 l) ≡ stream l
+unfolding stream
+four_bytes [] n h = absurd (omega arith)
+four_bytes (a ∷ []) n h = absurd (omega arith)
+four_bytes (a ∷ b ∷ []) n h = absurd (omega arith)
+four_bytes (a ∷ b ∷ c ∷ []) n h = absurd (omega arith)
+four_bytes (a ∷ b ∷ c ∷ d ∷ []) n h =
+    ap (bits 32) (omega arith)
+    ∙ bits_join 8 24 a (b + (c + d * 256) * 256) (h 0)
+    ∙ ap (λ (s : List Bool). bits 8 a ++ s)
+    (bits_join 8 16 b (c + d * 256) (h 1)
+    ∙ ap (λ (s : List Bool). bits 8 b ++ s)
+    (bits_join 8 8 c d (h 2)
+    ∙ ap (λ (s : List Bool). bits 8 c ++ s) (sym (append-nil (bits 8 d)))))
+four_bytes (a ∷ b ∷ c ∷ d ∷ e ∷ l) n h = absurd (omega arith)
+
+pub ten_streams : (l : List ℕ) (r a b c : ℕ) → length l ≡ 10 → r < 65536
+    → bits 32 a ≡ stream (get_or l 0 0 ∷ get_or l 1 0 ∷ get_or l 2 0 ∷ get_or l 3 0 ∷ [])
+    → bits 32 b ≡ stream (get_or l 4 0 ∷ get_or l 5 0 ∷ get_or l 6 0 ∷ get_or l 7 0 ∷ [])
+    → bits 16 c ≡ stream (get_or l 8 0 ∷ get_or l 9 0 ∷ [])
+    → bits 16 r ≡ crc generator (message a b c) → r ≡ crc_of l
+unfolding stream crc_of
+ten_streams l r a b c n k e f g h =
+    sym (mod-eq_of_lt k)
+    ∙ sym (number_bits 16 r)
+    ∙ ap number (h ∙ ap (crc generator) whole)
+  where
+    first : List ℕ
+    first = get_or l 0 0 ∷ get_or l 1 0 ∷ get_or l 2 0 ∷ get_or l 3 0 ∷ []
+
+    second : List ℕ
+    second = get_or l 4 0 ∷ get_or l 5 0 ∷ get_or l 6 0 ∷ get_or l 7 0 ∷ []
+
+    third : List ℕ
+    third = get_or l 8 0 ∷ get_or l 9 0 ∷ []
+
+    whole : message a b c ≡ stream l
+    whole =
+        rw (e, f, g)
+        (ap (λ (s : List Bool). stream first ++ s) (sym (stream_append second third))
+        ∙ sym (stream_append first (second ++ third))
+        ∙ sym (stream_from 10 0 l (sym n)))
+
+-- the same, of each byte
 pub ten_crc : (l : List ℕ) (r a b c : ℕ) → length l ≡ 10 → r < 65536
     → bits 32 a ≡ bits 8 (get_or l 0 0) ++ (bits 8 (get_or l 1 0) ++ (bits 8 (get_or l 2 0) ++ bits 8 (get_or l 3 0)))
     → bits 32 b ≡ bits 8 (get_or l 4 0) ++ (bits 8 (get_or l 5 0) ++ (bits 8 (get_or l 6 0) ++ bits 8 (get_or l 7 0)))

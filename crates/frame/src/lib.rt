@@ -4,9 +4,10 @@
 pub mod reason;
 mod words;
 
-ghost use Rattle.std.specs.Prelude.{◌≡◌, length};
+ghost use Rattle.std.specs.Prelude.{◌≡◌, cond};
 ghost use Rattle.crc.specs.Bits.{bits, odd_ones};
-ghost use Rattle.frame.specs.Check.{right_at, some_above};
+ghost use Rattle.laws.specs.Above.{above};
+ghost use Rattle.frame.specs.Check.{right_at};
 ghost use Rattle.frame.specs.Frame.{crc_of, data_of, even_symbol, odd_symbol, build as build_of, crc_right};
 ghost use Rattle.frame.specs.Reason.{fault_at, reason_of, checked_of};
 
@@ -15,9 +16,6 @@ use reason::Reason;
 
 // How many symbols a frame has.
 pub const SYMBOLS: usize = 12;
-
-// How many data bytes it is built from.
-const BYTES: usize = 10;
 
 // The largest number that is a received symbol.
 pub const LARGEST: u16 = 1023;
@@ -29,50 +27,44 @@ pub const MARKED: u16 = 512;
 pub fn parity(symbol: u16) -> bool
     ensures { result ≡ odd_ones (bits 9 symbol) }
 {
-    let nine = symbol % 512;
-    u32::count_ones(nine as u32) % 2 == 1
+    (symbol % 512).count_ones() % 2 == 1
 }
 
 // The CRC of ten data bytes: bit 0 is S15, bit 15 is S0.
 pub fn crc(bytes: [u8; 10]) -> u16
     ensures { result ≡ crc_of bytes }
 {
-    let first = words::four(bytes[0], bytes[1], bytes[2], bytes[3]);
-    let second = words::four(bytes[4], bytes[5], bytes[6], bytes[7]);
-    let third = words::two(bytes[8], bytes[9]);
-    words::crc_of(first, second, third)
+    let [a, b, c, d, e, f, g, h, i, j] = bytes;
+    words::crc_of(
+        words::four([a, b, c, d]),
+        words::four([e, f, g, h]),
+        words::two([i, j]),
+    )
 }
 
-// The symbol with this data and an even number of ones.
-fn even_symbol(byte: u8) -> u16
-    ensures { result ≡ even_symbol byte }
+// The symbol with this data and an odd or an even number of ones.
+fn symbol_of(byte: u8, odd: bool) -> u16
+    ensures { result ≡ cond odd (odd_symbol byte) (even_symbol byte) }
 {
-    let d = byte as u16;
-    if parity(d) { d + 256 } else { d }
+    let data = u16::from(byte);
+    if parity(data) == odd {
+        data
+    } else {
+        data + 256
+    }
 }
 
-// The symbol with this data and an odd number of ones.
-fn odd_symbol(byte: u8) -> u16
-    ensures { result ≡ odd_symbol byte }
-{
-    let d = byte as u16;
-    if parity(d) { d } else { d + 256 }
-}
-
-// Sending step 4: the twelve symbols of ten data bytes.
+// Sending step 4: the twelve symbols of ten data bytes. The first is even, the others are odd.
 pub fn build(bytes: [u8; 10]) -> [u16; 12]
     ensures { result ≡ build_of bytes }
 {
-    let check = crc(bytes);
+    let [low, high] = crc(bytes).to_le_bytes();
     let mut symbols = [0u16; 12];
-    symbols[0] = even_symbol(bytes[0]);
-    let mut i = 1;
-    while i < BYTES {
-        symbols[i] = odd_symbol(bytes[i]);
-        i += 1;
+    for (place, &byte) in bytes.iter().enumerate() {
+        symbols[place] = symbol_of(byte, place > 0);
     }
-    symbols[10] = odd_symbol((check % 256) as u8);
-    symbols[11] = odd_symbol((check / 256 % 256) as u8);
+    symbols[10] = symbol_of(low, true);
+    symbols[11] = symbol_of(high, true);
     symbols
 }
 
@@ -88,17 +80,15 @@ pub fn crc_right(symbols: [u16; 12]) -> bool
     ensures { result ≡ crc_right symbols }
 {
     let mut bytes = [0u8; 10];
-    let mut i = 0;
-    while i < BYTES {
-        bytes[i] = data_of(symbols[i]);
-        i += 1;
+    for (place, byte) in bytes.iter_mut().enumerate() {
+        *byte = data_of(symbols[place]);
     }
-    let low = symbols[10] % 256;
-    let high = symbols[11] % 256;
-    crc(bytes) == low + 256 * high
+    crc(bytes) == u16::from_le_bytes([data_of(symbols[10]), data_of(symbols[11])])
 }
 
-// Whether a symbol may stand at a place of a frame: not marked, even at place 0 and odd at any other.
+// Whether a symbol may stand at a place of a frame: not marked, even at place 0 and odd at any other. The frame check's
+// places are known to a compiler, which decides the branch on the place beforehand: a comparison with `place > 0` would
+// cost the check a tenth.
 pub fn right_at(symbol: u16, place: usize) -> bool
     ensures { result ≡ right_at place symbol }
 {
@@ -116,29 +106,27 @@ pub fn right_at(symbol: u16, place: usize) -> bool
 fn fault_at(symbol: u16, place: u8) -> Reason
     ensures { result ≡ fault_at place symbol }
 {
-    if MARKED <= symbol {
-        return Reason::Marked(place);
+    if symbol < MARKED {
+        Reason::Parity(place)
+    } else {
+        Reason::Marked(place)
     }
-    Reason::Parity(place)
 }
 
-// Whether a list holds a number that is no received symbol. It looks at all of them, so that a compiler can take many
-// at a time: a way out at the first would forbid it.
-pub fn some_above(list: &[u16]) -> bool
-    ensures { result ≡ some_above list.now }
+// Whether some number of a list is above the limit. It looks at all of them, so that a compiler can take many at a
+// time: a way out at the first would forbid it.
+pub fn above(limit: u16, list: &[u16]) -> bool
+    ensures { result ≡ above limit list.now }
 {
-    let mut above = false;
-    let mut i = 0;
-    while i < list.len() {
-        if LARGEST < list[i] {
-            above = true;
-        }
-        i += 1;
+    let mut found = false;
+    for &number in list {
+        found |= limit < number;
     }
-    above
+    found
 }
 
-// What the frame check gives: its answer, and the reason for it, Nothing where the list was not looked at.
+// What the frame check gives: its answer, and the reason for it, Nothing where the list was not looked at. The answer
+// is one of the table's, 0 too, as `checked_of` says and a caller hands on: so it is no Result.
 #[derive(Clone, Copy)]
 pub struct Checked {
     pub answer: Answer,
@@ -149,20 +137,20 @@ pub struct Checked {
 pub fn check(list: &[u16]) -> Checked
     ensures { result ≡ checked_of list.now }
 {
-    if list.len() != SYMBOLS {
+    let Ok(symbols) = <[u16; SYMBOLS]>::try_from(list) else {
         return Checked {
             answer: Answer::BadLength,
             reason: Reason::Nothing,
         };
-    }
-    if some_above(list) {
+    };
+    if above(LARGEST, &symbols) {
         return Checked {
             answer: Answer::BadSymbol,
             reason: Reason::Nothing,
         };
     }
-    let reason = reason_of(list);
-    let answer = if reason::is_accepted(reason) {
+    let reason = reason_of(symbols);
+    let answer = if reason.is_accepted() {
         Answer::Done
     } else {
         Answer::NotAcceptable
@@ -171,19 +159,12 @@ pub fn check(list: &[u16]) -> Checked
 }
 
 // Of twelve symbols: the first fault; if there is none, what the CRC says.
-fn reason_of(list: &[u16]) -> Reason
-    requires { length list.now ≡ 12 }
-    ensures { result ≡ reason_of list.now }
+fn reason_of(symbols: [u16; 12]) -> Reason
+    ensures { result ≡ reason_of symbols }
 {
-    let mut symbols = [0u16; 12];
-    let mut i = 0;
-    while i < SYMBOLS {
-        let symbol = list[i];
-        if right_at(symbol, i) {
-            symbols[i] = symbol;
-            i += 1;
-        } else {
-            return fault_at(symbol, i as u8);
+    for (place, &symbol) in symbols.iter().enumerate() {
+        if !right_at(symbol, place) {
+            return fault_at(symbol, place as u8);
         }
     }
     if crc_right(symbols) {

@@ -3,7 +3,7 @@ ghost use Rattle.std.specs.Prelude.{◌≡◌};
 ghost use Rattle.frame.specs.Reason.{reason_number, place_of, is_accepted};
 
 // What the frame check says of twelve symbols, and an end of its collection with each symbol that it takes.
-#[derive(Clone, Copy)]
+#[derive(Clone, Copy, Debug, PartialEq, Eq)]
 pub enum Reason {
     // no twelve symbols to look at; no collection ended
     Nothing,
@@ -16,41 +16,36 @@ pub enum Reason {
     Parity(u8),
 }
 
+impl Reason {
+    // The place of the symbol at fault, which is how many symbols stood before it; 0 where there is none.
+    pub fn place(self) -> u8
+        ensures { result ≡ place_of self }
+    {
+        match self {
+            Reason::Nothing | Reason::Accepted | Reason::Crc => 0,
+            Reason::Marked(place) | Reason::Parity(place) => place,
+        }
+    }
+
+    // Whether it is that a frame was accepted.
+    pub fn is_accepted(self) -> bool
+        ensures { result ≡ is_accepted self }
+    {
+        matches!(self, Reason::Accepted)
+    }
+}
+
 // The reason's number.
-pub fn number(reason: Reason) -> u8
-    ensures { result ≡ reason_number reason }
-{
-    match reason {
-        Reason::Nothing => 0,
-        Reason::Accepted => 1,
-        Reason::Crc => 2,
-        Reason::Marked(_) => 3,
-        Reason::Parity(_) => 4,
-    }
-}
+impl From<Reason> for u8 {
+    ghost from_gives = { λ reason number. number ≡ reason_number reason };
 
-// The place of the symbol at fault, which is how many symbols stood before it; 0 where there is none.
-pub fn place(reason: Reason) -> u8
-    ensures { result ≡ place_of reason }
-{
-    match reason {
-        Reason::Nothing => 0,
-        Reason::Accepted => 0,
-        Reason::Crc => 0,
-        Reason::Marked(place) => place,
-        Reason::Parity(place) => place,
-    }
-}
-
-// Whether it is that a frame was accepted.
-pub fn is_accepted(reason: Reason) -> bool
-    ensures { result ≡ is_accepted reason }
-{
-    match reason {
-        Reason::Nothing => false,
-        Reason::Accepted => true,
-        Reason::Crc => false,
-        Reason::Marked(_) => false,
-        Reason::Parity(_) => false,
+    fn from(reason: Reason) -> u8 {
+        match reason {
+            Reason::Nothing => 0,
+            Reason::Accepted => 1,
+            Reason::Crc => 2,
+            Reason::Marked(_) => 3,
+            Reason::Parity(_) => 4,
+        }
     }
 }

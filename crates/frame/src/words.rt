@@ -7,30 +7,30 @@
 ghost use Rattle.std.specs.Prelude.{◌++◌, ◌≡◌};
 ghost use Rattle.crc.specs.Bits.{bits, odd_ones};
 ghost use Rattle.crc.specs.Crc.{crc};
-ghost use Rattle.frame.specs.Frame.{generator};
+ghost use Rattle.frame.specs.Frame.{generator, stream};
 
 // The second factor: x^15 is bit 0, x is bit 14, 1 is bit 15.
 const FACTOR: u16 = 0xC001;
 
 // Two bytes as a word, the first one lowest.
-pub fn two(first: u8, second: u8) -> u16
-    ensures { bits 16 result ≡ bits 8 first ++ bits 8 second }
+pub fn two(bytes: [u8; 2]) -> u16
+    ensures { bits 16 result ≡ stream bytes }
 {
-    first as u16 + second as u16 * 256
+    u16::from_le_bytes(bytes)
 }
 
 // Four bytes likewise.
-pub fn four(first: u8, second: u8, third: u8, fourth: u8) -> u32
-    ensures { bits 32 result ≡ bits 8 first ++ (bits 8 second ++ (bits 8 third ++ bits 8 fourth)) }
+pub fn four(bytes: [u8; 4]) -> u32
+    ensures { bits 32 result ≡ stream bytes }
 {
-    two(first, second) as u32 + two(third, fourth) as u32 * 65536
+    u32::from_le_bytes(bytes)
 }
 
 // Whether a word has an odd number of ones.
 fn odd(word: u32) -> bool
     ensures { result ≡ odd_ones (bits 32 word) }
 {
-    u32::count_ones(word) % 2 == 1
+    word.count_ones() % 2 == 1
 }
 
 // The CRC of the eighty bits of three words.
@@ -38,9 +38,9 @@ pub fn crc_of(first: u32, second: u32, third: u16) -> u16
     ensures { bits 16 result ≡ crc generator (bits 32 first ++ (bits 32 second ++ bits 16 third)) }
 {
     // The words stand before x^64, x^32 and x^16, which are x^8 + x^4, x^4 + x^2 and x^2 + x.
-    let a = first as u64;
-    let b = second as u64;
-    let c = third as u64;
+    let a = u64::from(first);
+    let b = u64::from(second);
+    let c = u64::from(third);
     let forty = a ^ (a << 4) ^ (b << 4) ^ (b << 6) ^ (c << 22) ^ (c << 23);
     // The first ten of forty bits stand before x^30, which is x^2 + 1.
     let ten = forty % 1024;
@@ -50,7 +50,7 @@ pub fn crc_of(first: u32, second: u32, third: u16) -> u16
     let sixteen = fifteen ^ (fifteen << 1) ^ ((thirty >> 15) << 1);
     let remainder = (sixteen % 65536) as u16;
     // By the second factor that is the CRC, or the CRC with the factor added. The parity tells which.
-    if odd(first ^ second ^ third as u32 ^ remainder as u32) {
+    if odd(first ^ second ^ u32::from(third) ^ u32::from(remainder)) {
         remainder ^ FACTOR
     } else {
         remainder

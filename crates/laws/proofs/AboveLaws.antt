@@ -3,7 +3,7 @@
 --   above_get_d, above_from              no number of a list is above b exactly when each is at most b
 --   above_some                           where one is, it stands somewhere
 --   above_set                            a store within the limit
---   above_here, above_next, above_end    a look at each number from the front
+--   above_here, above_next, above_step, above_end    a look at each number from the front
 -- Assumes nothing.
 use Prim.Native.Nat.{ℕ, zero, suc, ◌+◌, ◌≤◌, ◌<◌}
 use native.Mathlib.Numerals.{add-one}
@@ -16,7 +16,7 @@ use lib.Dec.{ltb}
 use lib.ListN.{length, drop, get_or, set, drop_of_length-le}
 use lib.Seq.{drop-cons}
 use Rattle.laws.specs.Above.{above}
-use Rattle.laws.proofs.Bools.{or_none, or_no}
+use Rattle.laws.proofs.Bools.{or_none, or_no, or_assoc}
 
 pub above_none : (b : ℕ) (x : ℕ) (l : List ℕ) → x ≤ b → above b l ≡ false → above b (x ∷ l) ≡ false
 unfolding above
@@ -68,6 +68,11 @@ module _ (b : ℕ) (l : List ℕ) (i : ℕ) (a : Bool) where
     pub above_next : get_or l i 0 ≤ b → (a || above b (drop (i + 1) l)) ≡ (a || above b (drop i l))
     unfolding above
     above_next k = rw (add-one, drop-cons l i 0 h, le-ltb b (get_or l i 0) k)
+
+    -- whichever it is
+    pub above_step : ((a || ltb b (get_or l i 0)) || above b (drop (i + 1) l)) ≡ (a || above b (drop i l))
+    unfolding above
+    above_step = rw (add-one, drop-cons l i 0 h) (or_assoc a (ltb b (get_or l i 0)) (above b (drop (suc i) l)))
 
   pub above_end : length l ≤ i → a ≡ (a || above b (drop i l))
   unfolding above

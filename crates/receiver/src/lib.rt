@@ -14,14 +14,14 @@ pub mod taking;
 pub const LASTING: u16 = 768;
 
 // The collection: the symbols of a frame as they come.
-#[derive(Clone, Copy)]
+#[derive(Clone, Copy, Debug, Default, PartialEq, Eq)]
 pub struct Collector {
     pub symbols: [u16; 12],
     pub count: u8,
 }
 
 // What the last accepted frame said.
-#[derive(Clone, Copy)]
+#[derive(Clone, Copy, Debug, Default, PartialEq, Eq)]
 pub struct Heard {
     pub health: u8,
     // PingRx as got, and the partner's PingTx, which is echoed
@@ -34,7 +34,7 @@ pub struct Heard {
 }
 
 // The receive register, 3.2313 to 3.2317, with the expected toggle and the acknowledge.
-#[derive(Clone, Copy)]
+#[derive(Clone, Copy, Debug, Default, PartialEq, Eq)]
 pub struct Inbox {
     pub expected: bool,
     pub acknowledge: bool,
@@ -46,7 +46,7 @@ pub struct Inbox {
 
 // Request #106: how many collections ended with each reason, since reset or since a record without counts was
 // upgraded. A count stops at 65,535.
-#[derive(Clone, Copy)]
+#[derive(Clone, Copy, Debug, Default, PartialEq, Eq)]
 pub struct Counts {
     // frames accepted
     pub accepted: u16,

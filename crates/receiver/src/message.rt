@@ -7,10 +7,8 @@ pub fn message_of(symbols: [u16; 12]) -> [u8; 8]
     ensures { result ≡ map data_of (take 8 (drop 2 symbols)) }
 {
     let mut bytes = [0u8; 8];
-    let mut i = 0;
-    while i < 8 {
-        bytes[i] = (symbols[i + 2] % 256) as u8;
-        i += 1;
+    for (i, byte) in bytes.iter_mut().enumerate() {
+        *byte = (symbols[i + 2] % 256) as u8;
     }
     bytes
 }

@@ -10,7 +10,8 @@ pub fn left_after(accepted: bool, left: u16) -> u16
     ensures { result ≡ left_after accepted left }
 {
     if accepted {
-        return LASTING;
+        LASTING
+    } else {
+        left.saturating_sub(1)
     }
-    if left == 0 { 0 } else { left - 1 }
 }

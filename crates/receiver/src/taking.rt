@@ -27,7 +27,7 @@ pub fn collect(symbol: u16, mut collector: Collector) -> Collector
     ensures { result ≡ collected symbol collector }
 {
     let count = collector.count;
-    let place = count as usize;
+    let place = usize::from(count);
     if symbol >= frame::MARKED {
         collector.count = 0;
         return collector;
@@ -77,10 +77,7 @@ pub fn reason_of(symbol: u16, before: Collector, symbols: [u16; 12]) -> Reason
 pub fn hear(accepted: bool, symbols: [u16; 12], last: Heard) -> Heard
     ensures { result ≡ pick_heard accepted (said_by symbols) last }
 {
-    if accepted {
-        return said_by(symbols);
-    }
-    last
+    if accepted { said_by(symbols) } else { last }
 }
 
 // What the twelve symbols say.

@@ -1,7 +1,7 @@
 -- Laws on which the proofs of the calls stand.
---   gave_bad       what a call on a refused record gives
---   gave_done      what a call on any other record gives
---   told-*         what a take that says why gives; take_reply, that its answer is all that a plain take has to say
+--   gave           what a call on a record gives, refused or not; gave_told, a take that says why
+--   take_reply     the answer of a take that says why is all that a plain take has to say
+--   refused_reply, good_reply  what a call says that only reads the record
 --   counts-*       what asking for the counts gives
 --   fill-*         what filling an area gives
 --   upgrade-*      what an upgrade gives: of what is refused, in an area of a wrong size, and otherwise
@@ -16,7 +16,6 @@ use Rattle.answer.specs.declared.Answer.{Answer}
 use Rattle.answer.specs.declared.Answer.TheVariants.{Done, BadRecord}
 use Rattle.frame.specs.declared.reason.Reason.TheVariants.{Nothing}
 use Rattle.end.specs.declared.End.{End}
-use Rattle.end.specs.declared.Taken.{Taken}
 use Rattle.receiver.specs.Counting.{no_counts}
 use Rattle.end.specs.Taking.{take_of}
 use Rattle.recordspec.specs.Record.{size, size_one, version_one, size_two, version_two, record_of, end_of, newer, refused}
@@ -25,40 +24,47 @@ use Rattle.recordspec.specs.Results.{Result, taking}
 use Rattle.recordspec.proofs.Accepted.{accepted_back}
 use Rattle.recordspec.proofs.Before.{newer_good}
 use Rattle.record.specs.declared.Reply.{Reply}
-use Rattle.record.specs.Calls.{bad_reply, bad_record, stored, through, filled, upgrading, counts_by, reason_through}
-use Rattle.record.specs.Calls.{told_by}
+use Rattle.record.specs.declared.Told.{Told}
+use Rattle.std.specs.Option.{unwrap_or}
+use Rattle.std.specs.Prelude.{Option, None, Some}
+use Rattle.record.specs.Calls.{bad_reply, bad_record, stored, through, upgrading, counts_by, reason_through}
+use Rattle.record.specs.Calls.{Made, told_by}
 
-pub gave_bad : (f : End → Result) (r : List ℕ) {t : Bool} {p : Reply} → t ≡ refused r → t ≡ true → p ≡ bad_reply
-    → (p ≡ (through f r).reply) × (r ≡ (through f r).bytes)
-unfolding through
-gave_bad f r {t} {p} h b e =
-    let refused-r : refused r ≡ true = sym h ∙ b in
-    (e ∙ rw refused-r, rw refused-r)
+-- what a call on an end that gives y says of it: x, and the next end n
+abbrev Says : Result → Reply → End → Type 0
+Says y x n = (x ≡ (stored y).reply) × (n ≡ y.end)
 
-pub gave_done : (f : End → Result) (r : List ℕ) (x : Result) {t : Bool} {p : Reply} {b : List ℕ} → t ≡ refused r
-    → t ≡ false → x ≡ f (end_of r) → p ≡ (stored x).reply → b ≡ (stored x).bytes
+pub gave : (f : End → Result) (r b : List ℕ) (P : Reply → End → Type 0) (o : Option Reply) {p : Reply}
+    → Made r b P o
+    → ((x : Reply) (n : End) → P x n → Says (f (end_of r)) x n) → p ≡ unwrap_or o bad_reply
     → (p ≡ (through f r).reply) × (b ≡ (through f r).bytes)
 unfolding through
-gave_done f r x {t} {p} {b} h g e q s =
-    let good-r : refused r ≡ false = sym h ∙ g in
-    (q ∙ (ap (λ (y : Result). (stored y).reply) e ∙ rw good-r), s ∙ (ap (λ (y : Result). (stored y).bytes) e ∙ rw good-r))
+gave f r b P None m k e = (e ∙ rw m.0, rw m.0 m.1)
+gave f r b P (Some x) m k e =
+    let says = k x m.1.0 m.1.1 in
+    (e ∙ rw m.0 says.0, rw m.0 (m.1.2 ∙ ap record_of says.1))
 
-pub told_bad : (s : ℕ) (r : List ℕ) {t : Bool} → t ≡ refused r → t ≡ true
-    → (record { answer = BadRecord; reason = Nothing } ≡ told_by s r) × (r ≡ (through (taking s) r).bytes)
+pub gave_told : (s : ℕ) (r b : List ℕ) (P : Told → End → Type 0) (o : Option Told) {p : Told}
+    → Made r b P o
+    → ((x : Told) (n : End) → P x n
+    → (x ≡ record { answer = (take_of (end_of r) s).answer; reason = (take_of (end_of r) s).reason })
+    × (n ≡ (take_of (end_of r) s).end))
+    → p ≡ unwrap_or o (record { answer = BadRecord; reason = Nothing })
+    → (p ≡ told_by s r) × (b ≡ (through (taking s) r).bytes)
 unfolding through reason_through
-told_bad s r {t} h b =
-    let refused-r : refused r ≡ true = sym h ∙ b in
-    (rw refused-r, rw refused-r)
+gave_told s r b P None m k e = (e ∙ rw m.0, rw m.0 m.1)
+gave_told s r b P (Some x) m k e =
+    let says = k x m.1.0 m.1.1 in
+    (e ∙ rw m.0 says.0, rw m.0 (m.1.2 ∙ ap record_of says.1))
 
-pub told_done : (s : ℕ) (r : List ℕ) (x : Taken) {t : Bool} {b : List ℕ} → t ≡ refused r → t ≡ false
-    → x ≡ take_of (end_of r) s → b ≡ record_of x.end
-    → (record { answer = x.answer; reason = x.reason } ≡ told_by s r) × (b ≡ (through (taking s) r).bytes)
-unfolding through reason_through
-told_done s r x {t} {b} h g e q =
-    let good-r : refused r ≡ false = sym h ∙ g in (
-      rw good-r (ap (λ (y : Taken). record { answer = y.answer; reason = y.reason }) e),
-      q ∙ (ap (λ (y : Taken). record_of y.end) e ∙ rw good-r),
-    )
+pub refused_reply : (f : End → Result) (r : List ℕ) → refused r ≡ true → bad_reply ≡ (through f r).reply
+unfolding through
+refused_reply f r h = rw h
+
+pub good_reply : (f : End → Result) (r : List ℕ) → refused r ≡ false
+    → (stored (f (end_of r))).reply ≡ (through f r).reply
+unfolding through
+good_reply f r h = rw h
 
 pub take_reply : (s : ℕ) (r : List ℕ) {a : Answer} → a ≡ (through (taking s) r).reply.answer
     → record { answer = a; value = 0 } ≡ (through (taking s) r).reply
@@ -70,27 +76,14 @@ take_reply s r {a} = go (refused r)
     go true e = ap (λ (x : Answer). record { answer = x; value = 0 }) e
     go false e = ap (λ (x : Answer). record { answer = x; value = 0 }) e
 
-pub counts_bad : (r : List ℕ) {t : Bool} → t ≡ refused r → t ≡ true
-    → record { answer = BadRecord; counts = no_counts } ≡ counts_by r
+pub counts_bad : (r : List ℕ) → refused r ≡ true → record { answer = BadRecord; counts = no_counts } ≡ counts_by r
 unfolding counts_by
-counts_bad r {t} h b =
-    let refused-r : refused r ≡ true = sym h ∙ b in
-    rw refused-r
+counts_bad r h = rw h
 
-pub counts_done : (r : List ℕ) (e : End) {t : Bool} → t ≡ refused r → t ≡ false → e ≡ end_of r
+pub counts_done : (r : List ℕ) (e : End) → refused r ≡ false → e ≡ end_of r
     → record { answer = Done; counts = e.counts } ≡ counts_by r
 unfolding counts_by
-counts_done r e {t} h g q =
-    let good-r : refused r ≡ false = sym h ∙ g in
-    rw good-r (ap (λ (x : End). record { answer = Done; counts = x.counts }) q)
-
-pub fill_bad : (e : End) (a : List ℕ) {p : Reply} → ¬ (length a ≡ size) → p ≡ bad_reply
-    → (p ≡ (filled e a).reply) × (a ≡ (filled e a).bytes)
-fill_bad e a h q = (q ∙ rw (ne_eqb (length a) size h), rw (ne_eqb (length a) size h))
-
-pub fill_done : (e : End) (a : List ℕ) {b : List ℕ} → length a ≡ size → b ≡ record_of e
-    → (record { answer = Done; value = 0 } ≡ (filled e a).reply) × (b ≡ (filled e a).bytes)
-fill_done e a h q = (rw (eq-eqb (length a) size h), q ∙ rw (eq-eqb (length a) size h))
+counts_done r e h q = rw h (ap (λ (x : End). record { answer = Done; counts = x.counts }) q)
 
 module _ (r a : List ℕ) {s t : Bool} (h : s ≡ refused_before size_one version_one r)
     (k : t ≡ refused_before size_two version_two r) where

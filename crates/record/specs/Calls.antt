@@ -2,6 +2,8 @@
 --   Called            what a call on a record gives: the reply, and every byte of the record after it
 --   bad_record r      answer 11, and the bytes as they were; stored x, the answer of x, and the record of its end
 --   through f r       the call f on the record r: answer 11 and the bytes as they were, or the call on its end
+--   Made r b P o      a call on the record r that leaves the bytes b and says o: nothing, and the bytes as they were, where
+--                     r is refused; else some x with P x n, and the record of the end n
 --   reason_through s r  request #105: what becomes of the collection of the record r with the symbol s; nothing is said
 --                     of a record that is refused
 --   told_by s r       that, with the answer of taking s
@@ -11,7 +13,7 @@
 --                     or 2
 --   counts_by r       the counts of the record r; all 0 where it is refused
 -- Assumes nothing.
-use Rattle.std.specs.Prelude.{ℕ, cond, List, eqb, length}
+use Rattle.std.specs.Prelude.{ℕ, ◌≡◌, true, false, cond, List, eqb, length, Option, MatchOption}
 use Rattle.answer.specs.declared.Answer.TheVariants.{Done, BadRecord}
 use Rattle.frame.specs.declared.reason.Reason.{Reason}
 use Rattle.frame.specs.declared.reason.Reason.TheVariants.{Nothing}
@@ -40,6 +42,11 @@ stored x = record { reply = record { answer = x.answer; value = x.value }; bytes
 
 unfoldable pub through : (End → Result) → List ℕ → Called
 through f r = cond (refused r) (bad_record r) (stored (f (end_of r)))
+
+abbrev pub Made : {T : Type 0} → (r b : List ℕ) → (T → End → Type 0) → Option T → Type 0
+Made r b P o =
+    MatchOption o ((refused r ≡ true) × (b ≡ r))
+    (λ x. (refused r ≡ false) × ((n : End) × P x n × (b ≡ record_of n)))
 
 unfoldable pub reason_through : ℕ → List ℕ → Reason
 reason_through s r = cond (refused r) Nothing (take_of (end_of r) s).reason

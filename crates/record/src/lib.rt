@@ -3,21 +3,23 @@
 // Requests #106 and #107: the counts, and the records of before, which an upgrade alone reads.
 #![tactic(auto)]
 
-ghost use Rattle.std.specs.Prelude.{◌≡◌, length};
-ghost use Rattle.recordspec.specs.Record.{size};
-ghost use Rattle.recordspec.specs.Results.{moved, sending, taking, reading, writing, setting_health, presenting};
-ghost use Rattle.record.specs.Calls.{through, told_by, filled, resetting, upgrading, counts_by, bad_reply, stored};
+ghost use Rattle.std.specs.Prelude.{◌≡◌, true, false, MatchOption};
+ghost use Rattle.end.specs.declared.End.{End};
+ghost use Rattle.recordspec.specs.Record.{refused, end_of};
+ghost use Rattle.recordspec.specs.Results.{sending, taking, reading, writing, setting_health, presenting};
+ghost use Rattle.record.specs.Calls.{through, Made, told_by, filled, resetting, upgrading, counts_by};
 
 use answer::Answer;
-use end::{End, Next};
+use end::{End, Next, Read};
 use frame::reason::Reason;
 use receiver::Counts;
 use recordbytes::reading::end_of;
 use recordbytes::refusing::{refused, refused_before};
 use recordbytes::writing::{put_end, put_newer};
-use recordbytes::{SIZE, SIZE_ONE, SIZE_TWO, VERSION_ONE, VERSION_TWO};
+use recordbytes::{ONE, SIZE, TWO};
 
-// What a call gives: its answer, and the symbol of a send, the value of a read, 1 for present; else 0.
+// What a call gives: its answer, and the symbol of a send, the value of a read, 1 for present; else 0. C gets both,
+// whatever the answer is.
 #[derive(Clone, Copy)]
 pub struct Reply {
     pub answer: Answer,
@@ -38,13 +40,23 @@ pub struct Counted {
     pub counts: Counts,
 }
 
+// Answer 11, and answer 0 with nothing to say.
+const BAD_RECORD: Reply = Reply {
+    answer: Answer::BadRecord,
+    value: 0,
+};
+
+const DONE: Reply = Reply {
+    answer: Answer::Done,
+    value: 0,
+};
+
 // Fills an area of the right size with the record of an end just reset. What was there does not matter.
 pub fn reset(area: &mut [u8]) -> Reply
     ensures value { result ≡ (resetting area.old).reply }
     ensures area_after { area.new ≡ (resetting area.old).bytes }
 {
-    let fresh = End::reset();
-    fill(area, fresh)
+    fill(area, End::reset())
 }
 
 // Fills an area of the right size with the record of the end that an old one, of version 1 or 2, is the record of. The
@@ -53,19 +65,14 @@ pub fn upgrade(old: &[u8], area: &mut [u8]) -> Reply
     ensures value { result ≡ (upgrading old.now area.old).reply }
     ensures area_after { area.new ≡ (upgrading old.now area.old).bytes }
 {
-    let not_one = refused_before(SIZE_ONE, VERSION_ONE, old);
-    let not_two = refused_before(SIZE_TWO, VERSION_TWO, old);
-    if not_one & not_two {
-        return bad_record();
+    if refused_before(ONE, old) & refused_before(TWO, old) {
+        return BAD_RECORD;
     }
-    if area.len() != SIZE {
-        return bad_record();
-    }
+    let Some(area) = area.as_mut_array::<SIZE>() else {
+        return BAD_RECORD;
+    };
     put_newer(area, old);
-    Reply {
-        answer: Answer::Done,
-        value: 0,
-    }
+    DONE
 }
 
 // The symbol of this slot.
@@ -73,18 +80,15 @@ pub fn send(area: &mut [u8]) -> Reply
     ensures value { result ≡ (through sending area.old).reply }
     ensures area_after { area.new ≡ (through sending area.old).bytes }
 {
-    if refused(area) {
-        return bad_record();
-    }
-    let end = end_of(area);
-    let sent = end.send();
-    let answer = sent.answer;
-    let next = sent.end;
-    put_end(area, next);
-    Reply {
-        answer,
-        value: sent.symbol,
-    }
+    on_end(area, |end| {
+        let sent = end.send();
+        let reply = Reply {
+            answer: sent.answer,
+            value: sent.symbol,
+        };
+        (reply, sent.end)
+    })
+    .unwrap_or(BAD_RECORD)
 }
 
 // A symbol that arrived.
@@ -92,8 +96,7 @@ pub fn take(area: &mut [u8], symbol: u16) -> Reply
     ensures value { result ≡ (through (taking symbol) area.old).reply }
     ensures area_after { area.new ≡ (through (taking symbol) area.old).bytes }
 {
-    let told = take_reason(area, symbol);
-    let answer = told.answer;
+    let Told { answer, .. } = take_reason(area, symbol);
     Reply { answer, value: 0 }
 }
 
@@ -102,19 +105,18 @@ pub fn take_reason(area: &mut [u8], symbol: u16) -> Told
     ensures value { result ≡ told_by symbol area.old }
     ensures area_after { area.new ≡ (through (taking symbol) area.old).bytes }
 {
-    if refused(area) {
-        return Told {
-            answer: Answer::BadRecord,
-            reason: Reason::Nothing,
+    on_end(area, |end| {
+        let taken = end.take(symbol);
+        let told = Told {
+            answer: taken.answer,
+            reason: taken.reason,
         };
-    }
-    let end = end_of(area);
-    let taken = end.take(symbol);
-    let answer = taken.answer;
-    let reason = taken.reason;
-    let next = taken.end;
-    put_end(area, next);
-    Told { answer, reason }
+        (told, taken.end)
+    })
+    .unwrap_or(Told {
+        answer: Answer::BadRecord,
+        reason: Reason::Nothing,
+    })
 }
 
 // A register's value.
@@ -122,18 +124,11 @@ pub fn read(area: &mut [u8], register: u16) -> Reply
     ensures value { result ≡ (through (reading register) area.old).reply }
     ensures area_after { area.new ≡ (through (reading register) area.old).bytes }
 {
-    if refused(area) {
-        return bad_record();
-    }
-    let end = end_of(area);
-    let got = end.read(register);
-    let answer = got.answer;
-    let next = got.end;
-    put_end(area, next);
-    Reply {
-        answer,
-        value: got.value,
-    }
+    on_end(area, |end| {
+        let Read { answer, value, end } = end.read(register);
+        (Reply { answer, value }, end)
+    })
+    .unwrap_or(BAD_RECORD)
 }
 
 // A value for a register.
@@ -141,12 +136,11 @@ pub fn write(area: &mut [u8], register: u16, value: u16) -> Reply
     ensures value { result ≡ (through (writing register value) area.old).reply }
     ensures area_after { area.new ≡ (through (writing register value) area.old).bytes }
 {
-    if refused(area) {
-        return bad_record();
-    }
-    let end = end_of(area);
-    let next = end.write(register, value);
-    put_next(area, next)
+    on_end(area, |end| {
+        let Next { answer, end } = end.write(register, value);
+        (Reply { answer, value: 0 }, end)
+    })
+    .unwrap_or(BAD_RECORD)
 }
 
 // The health to send, from the next frame start on.
@@ -154,26 +148,23 @@ pub fn set_health(area: &mut [u8], health: u16) -> Reply
     ensures value { result ≡ (through (setting_health health) area.old).reply }
     ensures area_after { area.new ≡ (through (setting_health health) area.old).bytes }
 {
-    if refused(area) {
-        return bad_record();
-    }
-    let end = end_of(area);
-    let next = end.set_health(health);
-    put_next(area, next)
+    on_end(area, |end| {
+        let Next { answer, end } = end.set_health(health);
+        (Reply { answer, value: 0 }, end)
+    })
+    .unwrap_or(BAD_RECORD)
 }
 
 // Whether the partner is present. The record is only read.
 pub fn present(area: &[u8]) -> Reply
     ensures { result ≡ (through presenting area.now).reply }
 {
-    if refused(area) {
-        return bad_record();
-    }
-    let end = end_of(area);
-    let there = end.present();
+    let Some(end) = end_in(area) else {
+        return BAD_RECORD;
+    };
     Reply {
         answer: Answer::Done,
-        value: there as u16,
+        value: u16::from(end.present()),
     }
 }
 
@@ -181,22 +172,15 @@ pub fn present(area: &[u8]) -> Reply
 pub fn counts(area: &[u8]) -> Counted
     ensures { result ≡ counts_by area.now }
 {
-    if refused(area) {
+    let Some(end) = end_in(area) else {
         return Counted {
             answer: Answer::BadRecord,
-            counts: Counts {
-                accepted: 0,
-                crc: 0,
-                marked: 0,
-                early: 0,
-            },
+            counts: Counts::default(),
         };
-    }
-    let end = end_of(area);
-    let counts = end.counts;
+    };
     Counted {
         answer: Answer::Done,
-        counts,
+        counts: end.counts,
     }
 }
 
@@ -205,35 +189,33 @@ fn fill(area: &mut [u8], given: End) -> Reply
     ensures value { result ≡ (filled given area.old).reply }
     ensures area_after { area.new ≡ (filled given area.old).bytes }
 {
-    if area.len() != SIZE {
-        return bad_record();
-    }
+    let Some(area) = area.as_mut_array::<SIZE>() else {
+        return BAD_RECORD;
+    };
     put_end(area, given);
-    Reply {
-        answer: Answer::Done,
-        value: 0,
-    }
+    DONE
 }
 
-// Answer 11.
-fn bad_record() -> Reply
-    ensures { result ≡ bad_reply }
+// The end of a record, unless it is refused.
+fn end_in(area: &[u8]) -> Option<End>
+    ensures { MatchOption result (refused area.now ≡ true) (λ e. (refused area.now ≡ false) × (e ≡ end_of area.now)) }
 {
-    Reply {
-        answer: Answer::BadRecord,
-        value: 0,
+    if refused(area) {
+        return None;
     }
+    let record = area.as_array()?;
+    Some(end_of(record))
 }
 
-// What write and set health give. The end is written back whatever the answer is: a refused call gives the end
-// that was read, and writing that one leaves every byte as it was.
-fn put_next(area: &mut [u8], next: Next) -> Reply
-    requires { length area.old ≡ size }
-    ensures value { result ≡ (stored (moved next)).reply }
-    ensures area_after { area.new ≡ (stored (moved next)).bytes }
+// What a call on the end of a record gives, unless the record is refused. The end is written back whatever the answer
+// is: a refused call gives the end that was read, and writing that one leaves every byte as it was.
+fn on_end<T, F: FnOnce(End) -> (T, End)>(area: &mut [u8], call: F) -> Option<T>
+    requires { F.IsAlwaysCallable call }
+    ensures { Made area.old area.new (λ x n. F.post call (end_of area.old) (x, n)) result }
 {
-    let answer = next.answer;
-    let end = next.end;
-    put_end(area, end);
-    Reply { answer, value: 0 }
+    let end = end_in(area)?;
+    let record = area.as_mut_array::<SIZE>()?;
+    let (said, next) = call(end);
+    put_end(record, next);
+    Some(said)
 }

@@ -7,16 +7,32 @@ pub mod reading;
 pub mod refusing;
 pub mod writing;
 
-// How long a record is, and its version.
+ghost use Rattle.std.specs.Prelude.{◌≤◌};
+ghost use Rattle.recordspec.specs.Record.{size_one};
+
+// How long a record is.
 pub const SIZE: usize = 101;
 
-pub const VERSION: u8 = 3;
+// A version of the record: how long its records are, and its number. None is shorter than the first one.
+#[derive(Clone, Copy)]
+pub struct Version {
+    pub size: usize,
+    pub number: u8,
+    ghost long: { size_one ≤ size },
+}
 
-// The same of the records of before.
-pub const SIZE_ONE: usize = 92;
+// The version of now, and the ones of before.
+pub const CURRENT: Version = Version {
+    size: SIZE,
+    number: 3,
+};
 
-pub const VERSION_ONE: u8 = 1;
+pub const ONE: Version = Version {
+    size: 92,
+    number: 1,
+};
 
-pub const SIZE_TWO: usize = 100;
-
-pub const VERSION_TWO: u8 = 2;
+pub const TWO: Version = Version {
+    size: 100,
+    number: 2,
+};

@@ -1,41 +1,33 @@
 // The end of a record.
-ghost use Rattle.std.specs.Prelude.{◌≡◌, ◌+◌, ◌≤◌, ◌<◌, length};
-ghost use Rattle.recordspec.specs.Record.{size, end_of, two_at, pairs};
+ghost use Rattle.std.specs.Prelude.{◌≡◌, ◌+◌, ◌≤◌, ◌<◌};
+ghost use Rattle.recordspec.specs.Record.{size, end_of, two_at, bytes_at, pairs};
 ghost use Rattle.recordspec.specs.Record.{sender_of, outbox_of, collector_of, heard_of, inbox_of, counts_of, presence_of};
 
+use crate::SIZE;
 use end::{End, Outbox, Sender};
 use receiver::{Collector, Counts, Heard, Inbox};
+use std::array;
 
 // The end of a record, part by part.
-pub fn end_of(area: &[u8]) -> End
-    requires { length area.now ≡ size }
+pub fn end_of(area: &[u8; SIZE]) -> End
     ensures { result ≡ end_of area.now }
 {
-    let sender = sender_of(area);
-    let outbox = outbox_of(area);
-    let collector = collector_of(area);
-    let heard = heard_of(area);
-    let inbox = inbox_of(area);
-    let counts = counts_of(area);
-    let presence = presence_of(area);
     End {
-        sender,
-        outbox,
-        collector,
-        heard,
-        inbox,
-        counts,
-        presence,
+        sender: sender_of(area),
+        outbox: outbox_of(area),
+        collector: collector_of(area),
+        heard: heard_of(area),
+        inbox: inbox_of(area),
+        counts: counts_of(area),
+        presence: presence_of(area),
     }
 }
 
-fn sender_of(area: &[u8]) -> Sender
-    requires { length area.now ≡ size }
+fn sender_of(area: &[u8; SIZE]) -> Sender
     ensures { result ≡ sender_of area.now }
 {
-    let symbols = symbols_of(&area[3..27]);
     Sender {
-        symbols,
+        symbols: symbols_at(area, 3),
         position: area[27],
         toggle: area[28] == 1,
         ready: area[29] == 1,
@@ -44,11 +36,9 @@ fn sender_of(area: &[u8]) -> Sender
     }
 }
 
-fn outbox_of(area: &[u8]) -> Outbox
-    requires { length area.now ≡ size }
+fn outbox_of(area: &[u8; SIZE]) -> Outbox
     ensures { result ≡ outbox_of area.now }
 {
-    let bytes = eight_of(&area[38..46]);
     Outbox {
         pending: area[32] == 1,
         toggle: area[33] == 1,
@@ -56,23 +46,20 @@ fn outbox_of(area: &[u8]) -> Outbox
         confirmed: area[35] == 1,
         number: area[36],
         ping: area[37] == 1,
-        bytes,
+        bytes: eight_at(area, 38),
     }
 }
 
-fn collector_of(area: &[u8]) -> Collector
-    requires { length area.now ≡ size }
+fn collector_of(area: &[u8; SIZE]) -> Collector
     ensures { result ≡ collector_of area.now }
 {
-    let symbols = symbols_of(&area[46..70]);
     Collector {
-        symbols,
+        symbols: symbols_at(area, 46),
         count: area[70],
     }
 }
 
-fn heard_of(area: &[u8]) -> Heard
-    requires { length area.now ≡ size }
+fn heard_of(area: &[u8; SIZE]) -> Heard
     ensures { result ≡ heard_of area.now }
 {
     Heard {
@@ -86,23 +73,20 @@ fn heard_of(area: &[u8]) -> Heard
     }
 }
 
-fn inbox_of(area: &[u8]) -> Inbox
-    requires { length area.now ≡ size }
+fn inbox_of(area: &[u8; SIZE]) -> Inbox
     ensures { result ≡ inbox_of area.now }
 {
-    let bytes = eight_of(&area[83..91]);
     Inbox {
         expected: area[78] == 1,
         acknowledge: area[79] == 1,
         full: area[80] == 1,
         toggle: area[81] == 1,
         number: area[82],
-        bytes,
+        bytes: eight_at(area, 83),
     }
 }
 
-fn counts_of(area: &[u8]) -> Counts
-    requires { length area.now ≡ size }
+fn counts_of(area: &[u8; SIZE]) -> Counts
     ensures { result ≡ counts_of area.now }
 {
     Counts {
@@ -114,53 +98,32 @@ fn counts_of(area: &[u8]) -> Counts
 }
 
 // What is left of presence.
-pub fn presence_of(area: &[u8]) -> u16
-    requires { length area.now ≡ size }
+pub fn presence_of(area: &[u8; SIZE]) -> u16
     ensures { result ≡ presence_of area.now }
 {
     two_at(area, 99)
 }
 
 // A number of two bytes, the high byte first.
-fn two_at(area: &[u8], at: usize) -> u16
-    requires { at + 1 < length area.now }
+fn two_at(area: &[u8; SIZE], at: usize) -> u16
+    requires { at + 1 < size }
     ensures { result ≡ two_at area.now at }
 {
-    256 * wide(area[at]) + wide(area[at + 1])
+    u16::from_be_bytes([area[at], area[at + 1]])
 }
 
-// Twelve symbols of two bytes each, likewise.
-fn symbols_of(bytes: &[u8]) -> [u16; 12]
-    requires { length bytes.now ≡ 24 }
-    ensures { result ≡ pairs bytes.now }
+// Twelve symbols, likewise.
+fn symbols_at(area: &[u8; SIZE], at: usize) -> [u16; 12]
+    requires { at + 24 ≤ size }
+    ensures { result ≡ pairs (bytes_at area.now at 24) }
 {
-    let mut symbols = [0u16; 12];
-    let mut i = 0;
-    while i < 12 {
-        symbols[i] = 256 * wide(bytes[2 * i]) + wide(bytes[2 * i + 1]);
-        i += 1;
-    }
-    symbols
+    array::from_fn(|i| two_at(area, at + 2 * i))
 }
 
-// A byte as a number of sixteen bits.
-fn wide(byte: u8) -> u16
-    ensures value { result ≡ byte }
-    ensures upper_bound { result ≤ 255 }
+// Eight bytes.
+fn eight_at(area: &[u8; SIZE], at: usize) -> [u8; 8]
+    requires { at + 8 ≤ size }
+    ensures { result ≡ bytes_at area.now at 8 }
 {
-    byte as u16
-}
-
-// Eight bytes, as an array.
-fn eight_of(bytes: &[u8]) -> [u8; 8]
-    requires { length bytes.now ≡ 8 }
-    ensures { result ≡ bytes.now }
-{
-    let mut eight = [0u8; 8];
-    let mut i = 0;
-    while i < 8 {
-        eight[i] = bytes[i];
-        i += 1;
-    }
-    eight
+    array::from_fn(|i| area[at + i])
 }

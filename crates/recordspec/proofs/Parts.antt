@@ -1,6 +1,6 @@
 -- Laws on which the proofs of writing part by part stand.
 --   built     eight parts, one behind the other
---   built_newer, zeros_left   a record of before as one of now, and the zeros behind it
+--   built_newer   a record of before as one of now
 -- Assumes nothing.
 use Prim.Native.Nat.{ℕ, ◌+◌, ◌-◌, ◌≤◌}
 use mathlib.Core.List.{List, ◌++◌, append_assoc}
@@ -9,7 +9,7 @@ use native.Mathlib.Omega.{arith}
 use lib.ListN.{length, take, drop, replicate, length-drop, length-replicate}
 use lib.Seq.{length-take-le}
 use Rattle.recordspec.specs.Record.{size, version, size_one, size_two, head_of, without, newer}
-use Rattle.laws.proofs.Pieces.{behind, whole, zeros_cut}
+use Rattle.laws.proofs.Pieces.{behind, whole}
 
 pub built : {x1 x2 x3 x4 x5 x6 x7 x8 : List ℕ} (h s o c e i k p : List ℕ) → x1 ≡ h → x2 ≡ x1 ++ s → x3 ≡ x2 ++ o
     → x4 ≡ x3 ++ c → x5 ≡ x4 ++ e → x6 ≡ x5 ++ i → x7 ≡ x6 ++ k → x8 ≡ x7 ++ p
@@ -21,12 +21,6 @@ built h s o c e i k p a1 a2 a3 a4 a5 a6 a7 a8 =
     flat : (h s o c e i k p : List ℕ)
         → ((((((h ++ s) ++ o) ++ c) ++ e) ++ i) ++ k) ++ p ≡ h ++ ((s ++ (o ++ c)) ++ ((e ++ (i ++ k)) ++ p))
     flat h s o c e i k p = simp append_assoc
-
-pub zeros_left : (r : List ℕ) → size_one ≤ length r → length r ≤ size_two
-    → take (size - (length r - 1) - 0) (replicate 10 0) ≡ replicate {A = ℕ} (102 - length r) 0
-zeros_left r low high =
-    let many : size - (length r - 1) - 0 ≡ 102 - length r = omega arith in
-    ap (λ (k : ℕ). take k (replicate {A = ℕ} 10 0)) many ∙ zeros_cut (102 - length r) 10 (omega arith)
 
 -- a record of before as one of now: its head, its bytes without the bool, and zeros
 pub built_newer : (r x1 x2 x3 x4 a b z : List ℕ) → size_one ≤ length r → length r ≤ size_two → length x4 ≡ size

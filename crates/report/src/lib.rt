@@ -1,16 +1,11 @@
 // Whole tile reports, request #110: a layer above the ends that sees only their promise. A report is a block of 128
 // bytes; it goes as sixteen messages, and number n carries bytes 8n to 8n + 7. The hosts are structs by value: each
 // step takes the old one and gives the next one, with what happened. Any host and any end may come in.
-//
-// In these files conditions are joined by `&`, not `&&`: no part of one can fail, and with no branch in it a condition
-// is one equation to its definition.
 #![tactic(auto)]
 
+mod part;
 mod sending;
 mod taking;
-
-ghost use Rattle.std.specs.Prelude.{◌≡◌, ◌*◌};
-ghost use Rattle.report.specs.Sending.{done};
 
 use answer::Answer;
 use end::End;
@@ -43,7 +38,7 @@ pub struct Offered {
 }
 
 // What a sending host's step was.
-#[derive(Clone, Copy)]
+#[derive(Clone, Copy, Debug, PartialEq, Eq)]
 pub enum Push {
     // no block is under way
     Idle,
@@ -64,7 +59,7 @@ pub struct Pushed {
 }
 
 // What a message is to a taking host.
-#[derive(Clone, Copy)]
+#[derive(Clone, Copy, Debug, PartialEq, Eq)]
 pub enum Take {
     // the message of that number stands in the part block
     Part(u8),
@@ -74,7 +69,7 @@ pub enum Take {
     Whole,
 }
 
-// What take gives: the block that is handed over, 128 zero bytes where none is.
+// What take gives: the block that is handed over, 128 zero bytes where none is, as `take_of` says of each step.
 #[derive(Clone, Copy)]
 pub struct Taken {
     pub what: Take,
@@ -83,7 +78,7 @@ pub struct Taken {
 }
 
 // What a taking host's step was.
-#[derive(Clone, Copy)]
+#[derive(Clone, Copy, Debug, PartialEq, Eq)]
 pub enum Pull {
     // the end refused a read
     Refused(Answer),
@@ -100,18 +95,4 @@ pub struct Pulled {
     pub block: [u8; 128],
     pub host: TakingHost,
     pub end: End,
-}
-
-// Answer 0.
-fn done(answer: Answer) -> bool
-    ensures { result ≡ done answer }
-{
-    answer::number(answer) == 0
-}
-
-// Where part n begins in a block.
-fn place(n: u8) -> usize
-    ensures { result ≡ 8 * n }
-{
-    8 * (n as usize)
 }

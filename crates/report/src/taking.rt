@@ -1,8 +1,10 @@
 // The taking side: messages fill the part block, which is handed over when it is whole.
-ghost use Rattle.std.specs.Prelude.{◌≡◌, ◌<◌, ◌/◌, ◌%◌};
+ghost use Rattle.std.specs.Prelude.{◌≡◌, true, false, MatchOption};
 ghost use Rattle.report.specs.Taking.{filled_of, in_turn, fresh_taking, whole_or, take_of, words_of, pull_of};
 
-use crate::{PARTS, Pull, Pulled, Take, Taken, TakingHost, done, place};
+use crate::part::Part;
+use crate::{Pull, Pulled, Take, Taken, TakingHost};
+use answer::Answer;
 use end::End;
 
 // What the four reads of a message give: its bytes, and the end after them.
@@ -28,24 +30,19 @@ impl TakingHost {
     pub fn take(self, number: u8, bytes: [u8; 8]) -> Taken
         ensures { result ≡ take_of self number bytes }
     {
-        let block = self.block;
-        let turn = self.turn;
-        if in_turn(turn, number) {
-            let more = filled(block, number, bytes);
-            return whole_or(more, number);
+        let TakingHost { block, turn } = self;
+        if let Some(part) = in_turn(turn, number) {
+            return whole_or(filled(block, part, bytes), part);
         }
         if number == 0 {
-            let start = filled([0; 128], 0, bytes);
-            return whole_or(start, 0);
+            let first = Part { number: 0 };
+            return whole_or(filled([0; 128], first, bytes), first);
         }
-        let fresh = [0u8; 128];
+        let fresh = TakingHost::fresh();
         Taken {
             what: Take::Out(number),
             block: [0; 128],
-            host: TakingHost {
-                block: fresh,
-                turn: 0,
-            },
+            host: fresh,
         }
     }
 
@@ -54,69 +51,60 @@ impl TakingHost {
         ensures { result ≡ pull_of self end }
     {
         let status = end.read(2313);
-        let answer = status.answer;
-        let value = status.value;
-        let next = status.end;
-        if done(answer) {
-            if value / 32768 % 2 == 1 {
-                let words = words_of(next);
-                let bytes = words.bytes;
-                let taken = self.take((value / 256 % 16) as u8, bytes);
-                let what = taken.what;
-                let block = taken.block;
-                let host = taken.host;
-                let after = words.end;
-                return Pulled {
-                    what: Pull::Took(what),
-                    block,
-                    host,
-                    end: after,
-                };
-            }
+        if status.answer != Answer::Done {
+            return Pulled {
+                what: Pull::Refused(status.answer),
+                block: [0; 128],
+                host: self,
+                end: status.end,
+            };
+        }
+        if status.value / 32768 % 2 != 1 {
             return Pulled {
                 what: Pull::Empty,
                 block: [0; 128],
                 host: self,
-                end: next,
+                end: status.end,
             };
         }
+        let Words { bytes, end } = words_of(status.end);
+        let Taken { what, block, host } = self.take((status.value / 256 % 16) as u8, bytes);
         Pulled {
-            what: Pull::Refused(answer),
-            block: [0; 128],
-            host: self,
-            end: next,
+            what: Pull::Took(what),
+            block,
+            host,
+            end,
         }
     }
 }
 
-// A number is in turn.
-fn in_turn(turn: u8, number: u8) -> bool
-    ensures { result ≡ in_turn turn number }
+// The part of that number, where the number is in turn.
+fn in_turn(turn: u8, number: u8) -> Option<Part>
+    ensures { MatchOption result (in_turn turn number ≡ false)
+        (λ part. (in_turn turn number ≡ true) × (part.number ≡ number)) }
 {
-    (number < PARTS) & (number == turn)
+    if number == turn {
+        Part::numbered(number)
+    } else {
+        None
+    }
 }
 
-// The part block with part n in it.
-fn filled(block: [u8; 128], n: u8, bytes: [u8; 8]) -> [u8; 128]
-    requires { n < 16 }
-    ensures { result ≡ filled_of block n bytes }
+// The part block with a part in it.
+fn filled(block: [u8; 128], part: Part, bytes: [u8; 8]) -> [u8; 128]
+    ensures { result ≡ filled_of block part.number bytes }
 {
-    let at = place(n);
+    let at = part.place();
     let mut more = block;
-    let mut i = 0;
-    while i < 8 {
-        more[at + i] = bytes[i];
-        i += 1;
-    }
+    more[at..at + 8].copy_from_slice(&bytes);
     more
 }
 
-// Number n stands in the part block: at 15 it is handed over, and never before.
-fn whole_or(block: [u8; 128], n: u8) -> Taken
-    requires { n < 16 }
-    ensures { result ≡ whole_or block n }
+// A part stands in the part block: at number 15 the block is handed over, and never before.
+fn whole_or(block: [u8; 128], part: Part) -> Taken
+    ensures { result ≡ whole_or block part.number }
 {
-    if n == 15 {
+    if part.number == 15 {
         return Taken {
             what: Take::Whole,
             block,
@@ -124,9 +112,12 @@ fn whole_or(block: [u8; 128], n: u8) -> Taken
         };
     }
     Taken {
-        what: Take::Part(n),
+        what: Take::Part(part.number),
         block: [0; 128],
-        host: TakingHost { block, turn: n + 1 },
+        host: TakingHost {
+            block,
+            turn: part.number + 1,
+        },
     }
 }
 
@@ -135,38 +126,15 @@ fn words_of(end: End) -> Words
     ensures { result ≡ words_of end }
 {
     let first = end.read(2314);
-    let past_first = first.end;
-    let second = past_first.read(2315);
-    let past_second = second.end;
-    let third = past_second.read(2316);
-    let past_third = third.end;
-    let fourth = past_third.read(2317);
-    let past_fourth = fourth.end;
+    let second = first.end.read(2315);
+    let third = second.end.read(2316);
+    let fourth = third.end.read(2317);
+    let [a, b] = first.value.to_le_bytes();
+    let [c, d] = second.value.to_le_bytes();
+    let [e, f] = third.value.to_le_bytes();
+    let [g, h] = fourth.value.to_le_bytes();
     Words {
-        bytes: [
-            low(first.value),
-            high(first.value),
-            low(second.value),
-            high(second.value),
-            low(third.value),
-            high(third.value),
-            low(fourth.value),
-            high(fourth.value),
-        ],
-        end: past_fourth,
+        bytes: [a, b, c, d, e, f, g, h],
+        end: fourth.end,
     }
-}
-
-// The byte in 7:0 of a register's value.
-fn low(value: u16) -> u8
-    ensures { result ≡ value % 256 }
-{
-    (value % 256) as u8
-}
-
-// The byte in 15:8.
-fn high(value: u16) -> u8
-    ensures { result ≡ value / 256 }
-{
-    (value / 256) as u8
 }

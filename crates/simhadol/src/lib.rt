@@ -52,8 +52,7 @@ pub extern "C" fn simhadol_reset(area: &mut [u8]) -> SimhadolReply
     ensures value { result ≡ numbered (resetting area.old).reply }
     ensures area_after { area.new ≡ (resetting area.old).bytes }
 {
-    let reply = record::reset(area);
-    numbered(reply)
+    record::reset(area).into()
 }
 
 // The symbol of this slot.
@@ -62,8 +61,7 @@ pub extern "C" fn simhadol_send(area: &mut [u8]) -> SimhadolReply
     ensures value { result ≡ numbered (through sending area.old).reply }
     ensures area_after { area.new ≡ (through sending area.old).bytes }
 {
-    let reply = record::send(area);
-    numbered(reply)
+    record::send(area).into()
 }
 
 // A symbol that arrived.
@@ -72,8 +70,7 @@ pub extern "C" fn simhadol_take(area: &mut [u8], symbol: u16) -> SimhadolReply
     ensures value { result ≡ numbered (through (taking symbol) area.old).reply }
     ensures area_after { area.new ≡ (through (taking symbol) area.old).bytes }
 {
-    let reply = record::take(area, symbol);
-    numbered(reply)
+    record::take(area, symbol).into()
 }
 
 // The same take, which also says what became of the collection.
@@ -82,8 +79,7 @@ pub extern "C" fn simhadol_take_reason(area: &mut [u8], symbol: u16) -> Simhadol
     ensures value { result ≡ told (told_by symbol area.old) }
     ensures area_after { area.new ≡ (through (taking symbol) area.old).bytes }
 {
-    let taken = record::take_reason(area, symbol);
-    told(taken)
+    record::take_reason(area, symbol).into()
 }
 
 // The value of the register of that number.
@@ -92,8 +88,7 @@ pub extern "C" fn simhadol_read(area: &mut [u8], number: u16) -> SimhadolReply
     ensures value { result ≡ numbered (through (reading number) area.old).reply }
     ensures area_after { area.new ≡ (through (reading number) area.old).bytes }
 {
-    let reply = record::read(area, number);
-    numbered(reply)
+    record::read(area, number).into()
 }
 
 // A value for the register of that number.
@@ -102,8 +97,7 @@ pub extern "C" fn simhadol_write(area: &mut [u8], number: u16, value: u16) -> Si
     ensures value { result ≡ numbered (through (writing number value) area.old).reply }
     ensures area_after { area.new ≡ (through (writing number value) area.old).bytes }
 {
-    let reply = record::write(area, number, value);
-    numbered(reply)
+    record::write(area, number, value).into()
 }
 
 // The health to send.
@@ -112,8 +106,7 @@ pub extern "C" fn simhadol_set_health(area: &mut [u8], health: u16) -> SimhadolR
     ensures value { result ≡ numbered (through (setting_health health) area.old).reply }
     ensures area_after { area.new ≡ (through (setting_health health) area.old).bytes }
 {
-    let reply = record::set_health(area, health);
-    numbered(reply)
+    record::set_health(area, health).into()
 }
 
 // Whether the partner is present: 1 or 0.
@@ -121,8 +114,7 @@ pub extern "C" fn simhadol_set_health(area: &mut [u8], health: u16) -> SimhadolR
 pub extern "C" fn simhadol_present(area: &[u8]) -> SimhadolReply
     ensures { result ≡ numbered (through presenting area.now).reply }
 {
-    let reply = record::present(area);
-    numbered(reply)
+    record::present(area).into()
 }
 
 // The counts.
@@ -130,8 +122,7 @@ pub extern "C" fn simhadol_present(area: &[u8]) -> SimhadolReply
 pub extern "C" fn simhadol_counts(area: &[u8]) -> SimhadolCounted
     ensures { result ≡ counted (counts_by area.now) }
 {
-    let counts = record::counts(area);
-    counted(counts)
+    record::counts(area).into()
 }
 
 // Fills an area of the right size with the record of the end that an old one, of version 1 or 2, is the
@@ -141,53 +132,45 @@ pub extern "C" fn simhadol_upgrade(old: &[u8], area: &mut [u8]) -> SimhadolReply
     ensures value { result ≡ numbered (upgrading old.now area.old).reply }
     ensures area_after { area.new ≡ (upgrading old.now area.old).bytes }
 {
-    let reply = record::upgrade(old, area);
-    numbered(reply)
+    record::upgrade(old, area).into()
 }
 
 // A reply as C reads it.
-fn numbered(reply: Reply) -> SimhadolReply
-    ensures { result ≡ numbered reply }
-{
-    let answer = reply.answer;
-    let number = answer::number(answer);
-    SimhadolReply {
-        answer: wide(number),
-        value: reply.value,
+impl From<Reply> for SimhadolReply {
+    ghost from_gives = { λ reply given. given ≡ numbered reply };
+
+    fn from(reply: Reply) -> SimhadolReply {
+        SimhadolReply {
+            answer: u16::from(u8::from(reply.answer)),
+            value: reply.value,
+        }
     }
 }
 
 // What a take said, as C reads it.
-fn told(taken: Told) -> SimhadolTaken
-    ensures { result ≡ told taken }
-{
-    let answer = taken.answer;
-    let reason = taken.reason;
-    SimhadolTaken {
-        answer: wide(answer::number(answer)),
-        reason: wide(frame::reason::number(reason)),
-        symbols: wide(frame::reason::place(reason)),
+impl From<Told> for SimhadolTaken {
+    ghost from_gives = { λ taken given. given ≡ told taken };
+
+    fn from(taken: Told) -> SimhadolTaken {
+        SimhadolTaken {
+            answer: u16::from(u8::from(taken.answer)),
+            reason: u16::from(u8::from(taken.reason)),
+            symbols: u16::from(taken.reason.place()),
+        }
     }
 }
 
 // Counts as C reads them.
-fn counted(given: Counted) -> SimhadolCounted
-    ensures { result ≡ counted given }
-{
-    let answer = given.answer;
-    let counts = given.counts;
-    SimhadolCounted {
-        answer: wide(answer::number(answer)),
-        accepted: counts.accepted,
-        crc: counts.crc,
-        marked: counts.marked,
-        early: counts.early,
-    }
-}
+impl From<Counted> for SimhadolCounted {
+    ghost from_gives = { λ asked given. given ≡ counted asked };
 
-// A byte as a number of sixteen bits.
-fn wide(byte: u8) -> u16
-    ensures { result ≡ byte }
-{
-    byte as u16
+    fn from(asked: Counted) -> SimhadolCounted {
+        SimhadolCounted {
+            answer: u16::from(u8::from(asked.answer)),
+            accepted: asked.counts.accepted,
+            crc: asked.counts.crc,
+            marked: asked.counts.marked,
+            early: asked.counts.early,
+        }
+    }
 }

@@ -33,9 +33,7 @@ pub extern "C" fn simhadol_build(bytes: &[u8; 10], symbols: &mut [u16; 12])
 pub extern "C" fn simhadol_check(list: &[u16]) -> u8
     ensures { result ≡ number_of (check_of list.now) }
 {
-    let checked = frame::check(list);
-    let answer = checked.answer;
-    answer::number(answer)
+    u8::from(frame::check(list).answer)
 }
 
 // The finder's answer number.
@@ -43,9 +41,7 @@ pub extern "C" fn simhadol_check(list: &[u16]) -> u8
 pub extern "C" fn simhadol_found(list: &[u16]) -> u8
     ensures { result ≡ number_of (find_of list.now).answer }
 {
-    let found = finder::place(list);
-    let answer = found.answer;
-    answer::number(answer)
+    u8::from(finder::place(list).answer)
 }
 
 // The finder's place.
@@ -53,8 +49,7 @@ pub extern "C" fn simhadol_found(list: &[u16]) -> u8
 pub extern "C" fn simhadol_place(list: &[u16]) -> usize
     ensures { result ≡ (find_of list.now).place }
 {
-    let found = finder::place(list);
-    found.place
+    finder::place(list).place
 }
 
 // The sum over so many slots of two ends from reset.
@@ -62,6 +57,5 @@ pub extern "C" fn simhadol_place(list: &[u16]) -> usize
 pub extern "C" fn simhadol_slots(count: u32) -> u64
     ensures { result ≡ (run count start).sum }
 {
-    let pair = slots(count);
-    pair.sum
+    slots(count).sum
 }

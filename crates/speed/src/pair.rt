@@ -18,26 +18,18 @@ pub struct Pair {
 fn plus(sum: u64, number: u16) -> u64
     ensures { result ≡ plus sum number }
 {
-    sum % 4294967296 * 31 + number as u64
+    sum % 4294967296 * 31 + u64::from(number)
 }
 
 // In a slot both send, then both take what arrives.
 fn slot(pair: Pair) -> Pair
     ensures { result ≡ slot pair }
 {
-    let a = pair.a;
-    let b = pair.b;
-    let from_a = a.send();
-    let from_b = b.send();
-    let sent_a = from_a.end;
-    let sent_b = from_b.end;
-    let at_a = sent_a.take(from_b.symbol);
-    let at_b = sent_b.take(from_a.symbol);
-    let next_a = at_a.end;
-    let next_b = at_b.end;
+    let from_a = pair.a.send();
+    let from_b = pair.b.send();
     Pair {
-        a: next_a,
-        b: next_b,
+        a: from_a.end.take(from_b.symbol).end,
+        b: from_b.end.take(from_a.symbol).end,
         sum: plus(plus(pair.sum, from_a.symbol), from_b.symbol),
     }
 }
@@ -46,12 +38,9 @@ fn slot(pair: Pair) -> Pair
 fn reported(mut pair: Pair, number: u16) -> Pair
     ensures { result ≡ reported pair number }
 {
-    let a = pair.a;
-    let bytes = a.write(2309, number);
-    let stored = bytes.end;
-    let control = stored.write(2308, number % 16 * 256 + 32768);
-    let next = control.end;
-    pair.a = next;
+    let bytes = pair.a.write(2309, number);
+    let control = bytes.end.write(2308, number % 16 * 256 + 32768);
+    pair.a = control.end;
     pair
 }
 
@@ -59,15 +48,11 @@ fn reported(mut pair: Pair, number: u16) -> Pair
 fn emptied(pair: Pair) -> Pair
     ensures { result ≡ emptied pair }
 {
-    let b = pair.b;
-    let a = pair.a;
-    let status = b.read(2313);
-    let looked = status.end;
-    let bytes = looked.read(2317);
-    let next = bytes.end;
+    let status = pair.b.read(2313);
+    let bytes = status.end.read(2317);
     Pair {
-        a,
-        b: next,
+        a: pair.a,
+        b: bytes.end,
         sum: plus(plus(pair.sum, status.value), bytes.value),
     }
 }
@@ -92,10 +77,8 @@ pub fn slots(count: u32) -> Pair
         b: End::reset(),
         sum: 0,
     };
-    let mut left = count;
-    while 0 < left {
+    for left in (1..=count).rev() {
         pair = turn(left, pair);
-        left -= 1;
     }
     pair
 }

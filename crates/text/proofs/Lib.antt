@@ -2,5 +2,4 @@ pub mod LineLaws
 pub mod NumberLaws
 pub mod PrintLaws
 pub mod ReadBack
-pub mod ScanLaws
 pub mod WordLaws

@@ -1,45 +1,70 @@
 -- What the proofs cite of words.
---   spaces_step, spaces_stop, spaces_end   spaces_of at a place where a space stands, where none does, and at the end
---   parted_word                the words of a line begin with the letters up to its first space
---   spaces_words, spaces_none  the spaces that a line begins with make no difference; nothing may be behind them
---   words_end, first_letter    there are no words at the end of a line; a word's first letter
---   to_end                     a search up to the end of a line
---   stands                     the word that stands behind them, up to the next space
---   same_refl, same_not        same_as of a word and itself, and of two words that are not the same
---   place_end, place_found, place_more   place_of at a place of the names: there are no more, the next one is the word,
---                              or it is another
+--   differ                     true is not false
+--   place_some, place_none     what `position` answers, of the first place n in a list as long as k
+--   byte_place                 index_of is the first place of a byte
+--   words_none, stands         a line of spaces alone has no word; behind the spaces of another, up to the next space,
+--                              stands its first one
+--   rest_place                 where the rest of a line begins
+--   last_is, first_letter      none_of what next answers; asks_of by a word's first letter
 -- Assumes nothing.
 use Prim.Native.Nat.{ℕ, zero, suc, ◌+◌, ◌-◌, ◌≤◌, ◌<◌}
-use mathlib.Core.Bool.{Bool, true, false, ◌&&◌}
+use mathlib.Core.Bool.{Bool, true, false, cond, not}
 use mathlib.Core.List.{List, [], ◌∷◌, ◌++◌, append-nil, append_assoc}
-use mathlib.Core.Path.{◌≡◌, refl, sym, ap, ap₂, ◌∙◌}
-use native.Mathlib.Nat.{add-zero}
-use native.Mathlib.Numerals.{add-one}
+use mathlib.Core.Path.{◌≡◌, refl, sym, ap, ◌∙◌}
+use native.Mathlib.Numerals.{one-add}
 use native.Mathlib.Omega.{arith}
-use borrow.Author.Tests.{eq-eqb, ne_eqb, eqb-true, ltb-true, ltb-false}
+use borrow.Author.Tests.{ltb-true, ltb-false}
 use lib.Dec.{eqb, ltb}
-use lib.ListN.{length, take, drop, get_or, length-drop}
-use lib.Seq.{drop-cons, drop-drop, drop-length, take-length, get_or-take, get_or-drop}
-use Rattle.text.specs.Bytes.{index_of, slice}
-use Rattle.text.specs.Words.{ended, parted, words_of, rest_of, same_as, place_of, spaces_of, Stands}
+use lib.ListN.{length, take, drop, get_or, length-drop, drop_of_length-le}
+use lib.Seq.{drop-drop, drop-append_seam, take-length}
+use denote.Ref.{Bor}
+use Rattle.std.specs.Prelude.{Option, Some, None, position, is_some, MatchOption}
+use Rattle.std.specs.List.{position_or_len}
+use Rattle.std.specs.Option.{unwrap_or}
+use Rattle.std.proofs.lemmas.List.{take-append-drop}
+use Rattle.std.proofs.lemmas.List.Recursion.{is_position_or_len}
+use Rattle.std.proofs.lemmas.List.Sums.{prefix_len-le-length}
+use Rattle.text.specs.Bytes.{index_of}
+use Rattle.text.specs.Words.{ended, parted, words_of, none_of, asks_of, spaces_of, Stands}
 
--- at the place i of the line l
-pub spaces_step : (l : List ℕ) (from i : ℕ) → i < length l → get_or l i 0 ≡ 32
-    → i + spaces_of (drop i l) ≡ from + spaces_of (drop from l)
-    → (i + 1) + spaces_of (drop (i + 1) l) ≡ from + spaces_of (drop from l)
-unfolding spaces_of
-spaces_step l from i h e k =
-    let one : spaces_of (drop i l) ≡ suc (spaces_of (drop (i + 1) l)) =
-    rw (drop-cons l i 0 h, eq-eqb (get_or l i 0) 32 e, add-one) refl in
-    omega arith
+pub differ : true ≡ false → ⊥
+differ e = let z : ◌≡◌ {A = ℕ} 0 1 = cc in omega arith
 
-pub spaces_stop : (l : List ℕ) (i : ℕ) → i < length l → (get_or l i 0 ≡ 32 → ⊥) → spaces_of (drop i l) ≡ 0
-unfolding spaces_of
-spaces_stop l i h n = rw (drop-cons l i 0 h, ne_eqb (get_or l i 0) 32 n) refl
+place_by : (n k i : ℕ) (t : Bool) → ltb n k ≡ t → cond t (Some n) None ≡ Some i → (n ≡ i) × (i < k)
+place_by n k i true e s = let same : n ≡ i = cc in (same, rw (sym same) (ltb-true n k e))
+place_by n k i false e s = let z : ◌≡◌ {A = ℕ} 0 1 = cc in absurd (omega arith)
 
-pub spaces_end : (l : List ℕ) (i : ℕ) → i ≡ length l → spaces_of (drop i l) ≡ 0
+pub place_some : (n k i : ℕ) → cond (ltb n k) (Some n) None ≡ Some i → (n ≡ i) × (i < k)
+place_some n k i s = place_by n k i (ltb n k) refl s
+
+none_at : (n k : ℕ) (t : Bool) → ltb n k ≡ t → cond t (Some n) None ≡ None → k ≤ n
+none_at n k true e s = let z : ◌≡◌ {A = ℕ} 0 1 = cc in absurd (omega arith)
+none_at n k false e s = ltb-false n k e
+
+pub place_none : (n k : ℕ) → cond (ltb n k) (Some n) None ≡ None → k ≤ n
+place_none n k s = none_at n k (ltb n k) refl s
+
+or_len_by : (n k : ℕ) (t : Bool) → ltb n k ≡ t → n ≤ k → unwrap_or (cond t (Some n) None) k ≡ n
+or_len_by n k true e h = refl
+or_len_by n k false e h = let m : k ≤ n = ltb-false n k e in omega arith
+
+or_len : (n k : ℕ) → n ≤ k → unwrap_or (cond (ltb n k) (Some n) None) k ≡ n
+or_len n k h = or_len_by n k (ltb n k) refl h
+
+pub byte_place : (b : ℕ) (l : List ℕ) → index_of b l ≡ position_or_len (λ x. eqb x b) l
+unfolding index_of
+byte_place b l = is_position_or_len (index_of b) (λ x. eqb x b) refl (λ x l. rw one-add refl) l
+
+spaces_step : (x : ℕ) (l : List ℕ) (t : Bool) → eqb x 32 ≡ t
+    → spaces_of (x ∷ l) ≡ cond (not t) 0 (1 + spaces_of l)
 unfolding spaces_of
-spaces_end l i e = rw (e, drop-length l) refl
+spaces_step x l true e = rw e (omega arith)
+spaces_step x l false e = rw e refl
+
+spaces_place : (l : List ℕ) → spaces_of l ≡ position_or_len (λ x. not (eqb x 32)) l
+unfolding spaces_of
+spaces_place l =
+    is_position_or_len spaces_of (λ x. not (eqb x 32)) refl (λ x l. spaces_step x l (eqb x 32) refl) l
 
 parted_by : (w : List ℕ) (x : ℕ) (l : List ℕ) (t : Bool) → eqb x 32 ≡ t
     → ((v : List ℕ) → parted v l ≡ ended (v ++ take (index_of 32 l) l) (words_of (drop (index_of 32 l) l)))
@@ -67,28 +92,23 @@ unfolding spaces_of
 spaces_words [] = refl
 spaces_words (x ∷ l) = spaces_by x l (eqb x 32) refl (spaces_words l)
 
-none_by : (x : ℕ) (l : List ℕ) (t : Bool) → eqb x 32 ≡ t → (index_of 32 (drop (spaces_of l) l) ≡ 0 → words_of l ≡ [])
-    → index_of 32 (drop (spaces_of (x ∷ l)) (x ∷ l)) ≡ 0 → words_of (x ∷ l) ≡ []
-unfolding parted ended spaces_of index_of
-none_by x l true e k n = rw e (k (rw e at n))
-none_by x l false e k n = absurd (let m : suc (index_of 32 l) ≡ 0 = rw (e, e) at n in omega arith)
+letter_by : (x : ℕ) (l : List ℕ) (t : Bool) → eqb x 32 ≡ t
+    → (spaces_of l < length l → 0 < index_of 32 (drop (spaces_of l) l))
+    → spaces_of (x ∷ l) < length (x ∷ l) → 0 < index_of 32 (drop (spaces_of (x ∷ l)) (x ∷ l))
+unfolding spaces_of index_of
+letter_by x l true e k h = let less : suc (spaces_of l) < suc (length l) = rw e at h in rw e (k (omega arith))
+letter_by x l false e k h = rw (e, e) (omega arith)
 
-spaces_none : (l : List ℕ) → index_of 32 (drop (spaces_of l) l) ≡ 0 → words_of l ≡ []
+letter : (l : List ℕ) → spaces_of l < length l → 0 < index_of 32 (drop (spaces_of l) l)
+unfolding spaces_of index_of
+letter [] h = absurd (omega arith)
+letter (x ∷ l) h = letter_by x l (eqb x 32) refl (letter l) h
+
+pub words_none : (l : List ℕ) → position (λ x. not (eqb x 32)) l ≡ None → words_of l ≡ []
 unfolding parted ended
-spaces_none [] n = refl
-spaces_none (x ∷ l) n = none_by x l (eqb x 32) refl (spaces_none l) n
-
-pub words_end : (l : List ℕ) (at : ℕ) → at ≡ length l → words_of (drop at l) ≡ []
-unfolding parted ended
-words_end l at e = rw (e, drop-length l) refl
-
-pub first_letter : (l : List ℕ) (start n : ℕ) → 0 < n → get_or (take n (drop start l)) 0 0 ≡ get_or l start 0
-first_letter l start n h = get_or-take n (drop start l) 0 0 h ∙ (get_or-drop start l 0 0 ∙ rw (add-zero start) refl)
-
-to_end : (l : List ℕ) (start : ℕ)
-    → start + index_of 32 (slice start (length l) l) ≡ start + index_of 32 (drop start l)
-unfolding slice
-to_end l start = rw (take-length l) refl
+words_none l e =
+    let n : length l ≤ spaces_of l = rw (spaces_place l) (place_none _ _ e) in
+    spaces_words l ∙ rw (drop_of_length-le l n) refl
 
 ended_some : (n : ℕ) (m : List ℕ) (ws : List (List ℕ)) → 0 < n → n ≤ length m → ended (take n m) ws ≡ take n m ∷ ws
 unfolding ended
@@ -96,110 +116,61 @@ ended_some zero m ws p h = absurd (omega arith)
 ended_some (suc n) [] ws p h = absurd (omega arith)
 ended_some (suc n) (x ∷ m) ws p h = refl
 
-module _ (l : List ℕ) (from start end : ℕ) (inside : end ≤ length l)
-    (a : start ≡ from + spaces_of (drop from l)) (b : end ≡ start + index_of 32 (drop start l)) where
-  behind : drop (spaces_of (drop from l)) (drop from l) ≡ drop start l
-  behind = drop-drop (spaces_of (drop from l)) from l ∙ ap (λ (n : ℕ). drop n l) (sym a)
+pub rest_whole : (l : List ℕ) (i : ℕ) → take (length l - i) (drop i l) ≡ drop i l
+rest_whole l i = ap (λ (n : ℕ). take n (drop i l)) (sym (length-drop i l)) ∙ take-length (drop i l)
 
-  starts : words_of (drop from l) ≡ words_of (drop start l)
-  starts = spaces_words (drop from l) ∙ ap (λ (m : List ℕ). words_of m) behind
+-- behind the first i bytes of the line l, all of them spaces, stands m
+module _ (l : List ℕ) (i : ℕ) (m : List ℕ) (e : ℕ) (cut : m ≡ drop i l)
+    (a : position (λ x. not (eqb x 32)) l ≡ Some i) (b : e ≡ unwrap_or (position (λ x. eqb x 32) m) (length m)) where
+  at : (spaces_of l ≡ i) × (i < length l)
+  at = let p = place_some _ _ i a in (spaces_place l ∙ p.0, p.1)
 
-  some : start < end → words_of (drop from l) ≡ take (end - start) (drop start l) ∷ words_of (drop end l)
-  some h =
-      let n : index_of 32 (drop start l) ≡ end - start = omega arith in
-      let sum : start + (end - start) ≡ end = omega arith in
-      let after : drop (end - start) (drop start l) ≡ drop end l =
-      drop-drop (end - start) start l ∙ ap (λ (k : ℕ). drop k l) sum in
-      starts
-      ∙ (parted_word [] (drop start l)
-      ∙ (ap (λ (k : ℕ). ended (take k (drop start l)) (words_of (drop k (drop start l)))) n
-      ∙ (ap (λ (m : List ℕ). ended (take (end - start) (drop start l)) (words_of m)) after
-      ∙ ended_some (end - start) (drop start l) (words_of (drop end l)) (omega arith)
-      (simp length-drop (omega arith)))))
+  goes : e ≡ index_of 32 m
+  goes = b ∙ or_len _ _ (prefix_len-le-length _ m) ∙ sym (byte_place 32 m)
 
-  none : end ≤ start → words_of (drop from l) ≡ []
-  none h =
-      spaces_none (drop from l)
-      (ap (λ (m : List ℕ). index_of 32 m) behind ∙ omega arith)
+  inside : e ≤ length m
+  inside = rw (goes ∙ byte_place 32 m) (prefix_len-le-length _ m)
 
-  rest_by : (t : Bool) → ltb start end ≡ t → words_of (drop end l) ≡ rest_of (words_of (drop from l))
-  unfolding rest_of
-  rest_by true e = rw (some (ltb-true start end e)) refl
-  rest_by false e =
-      let h : end ≤ start = ltb-false start end e in
-      let same : end ≡ start = omega arith in
-      rw (none h, same) (sym starts ∙ none h)
+  some : 0 < e
+  some = rw (goes, cut, sym at.0) (letter l (rw at.0 at.1))
 
-  stands_by : Stands l from (record { start = start; end = end })
-  stands_by = record {
-    after = omega arith;
-    order = omega arith;
-    inside = inside;
-    some = some;
-    none = none;
-    rest = rest_by (ltb start end) refl;
-  }
+  words : words_of l ≡ take e m ∷ words_of (drop e m)
+  words =
+      spaces_words l
+      ∙ ap (λ (n : ℕ). words_of (drop n l)) at.0
+      ∙ ap (λ (r : List ℕ). words_of r) (sym cut)
+      ∙ parted_word [] m
+      ∙ ap (λ (n : ℕ). ended (take n m) (words_of (drop n m))) (sym goes)
+      ∙ ended_some e m (words_of (drop e m)) some inside
 
-pub stands : (l : List ℕ) (from start end : ℕ) → end ≤ length l → start ≡ from + spaces_of (drop from l)
-    → end ≡ start + index_of 32 (slice start (length l) l) → Stands l from (record { start = start; end = end })
-stands l from start end h a b = stands_by l from start end h a (b ∙ to_end l start)
+  pub stands : {w r : List ℕ} → w ≡ take e m → r ≡ drop e m → length w ≡ e → length r + e ≡ length m → Stands l w r
+  stands {w} {r} p q k n =
+      let long : length m ≡ length l - i = ap length cut ∙ length-drop i l in
+      let begin : length l - (length w + length r) ≡ i = omega (arith, at.1) in
+      record {
+        some = rw k some;
+        inside = omega arith;
+        place = rw begin (sym cut ∙ sym (take-append-drop e m) ∙ rw (p, q) refl);
+        words = rw (p, q) words;
+      }
 
--- Names
+pub rest_place : (l w r : List ℕ) → Stands l w r → r ≡ drop (length l - length r) l
+rest_place l w r s =
+    let sum : length l - (length w + length r) + length w ≡ length l - length r = omega (arith, s.inside) in
+    sym (drop-append_seam w r)
+    ∙ ap (drop (length w)) (sym s.place)
+    ∙ drop-drop (length w) (length l - (length w + length r)) l
+    ∙ ap (λ (n : ℕ). drop n l) sum
 
-differ : false ≡ true → ⊥
-differ e = let z : ◌≡◌ {A = ℕ} 0 1 = cc in omega arith
+pub last_is : (l : List ℕ) (o : Option (Bor (List ℕ) × Bor (List ℕ))) (r : Bool) → is_some o ≡ not r
+    → MatchOption o (words_of l ≡ []) (λ w. Stands l w.0.now w.1.now) → r ≡ none_of (words_of l)
+unfolding none_of
+last_is l None true k e = rw e refl
+last_is l None false k e = absurd (differ (sym k))
+last_is l (Some w) true k s = absurd (differ k)
+last_is l (Some w) false k s = rw s.words refl
 
-and-true : (s t : Bool) → (s && t) ≡ true → (s ≡ true) × (t ≡ true)
-and-true true t e = (refl, e)
-and-true false t e = absurd (differ e)
-
-same_refl : (v w : List ℕ) → v ≡ w → same_as v w ≡ true
-unfolding same_as
-same_refl v w e = rw (sym e) (itself v)
-  where
-    itself : (v : List ℕ) → same_as v v ≡ true
-    itself [] = refl
-    itself (x ∷ v) = rw (eq-eqb x x refl) (itself v)
-
-same_eq : (v w : List ℕ) → same_as v w ≡ true → v ≡ w
-unfolding same_as
-same_eq [] [] e = refl
-same_eq [] (y ∷ w) e = absurd (differ e)
-same_eq (x ∷ v) [] e = absurd (differ e)
-same_eq (x ∷ v) (y ∷ w) e =
-    let both = and-true (eqb x y) (same_as v w) e in
-    ap₂ (λ (z : ℕ) (u : List ℕ). z ∷ u) (eqb-true x y both.0) (same_eq v w both.1)
-
-same_by : (v w : List ℕ) (t : Bool) → same_as v w ≡ t → (v ≡ w → ⊥) → same_as v w ≡ false
-same_by v w true e n = absurd (n (same_eq v w e))
-same_by v w false e n = e
-
-same_not : (v w : List ℕ) → (v ≡ w → ⊥) → same_as v w ≡ false
-same_not v w n = same_by v w (same_as v w) refl n
-
-pub place_end : (names w : List ℕ) (index at : ℕ)
-    → index + place_of w (words_of (drop at names)) ≡ place_of w (words_of names)
-    → words_of (drop at names) ≡ [] → index ≡ place_of w (words_of names)
-unfolding place_of
-place_end names w index at k e =
-    let here : place_of w (words_of (drop at names)) ≡ 0 = rw e refl in
-    omega arith
-
--- the names from the place at on, of which the next one is v
-module _ (names w v : List ℕ) (index at end : ℕ)
-    (k : index + place_of w (words_of (drop at names)) ≡ place_of w (words_of names))
-    (e : words_of (drop at names) ≡ v ∷ words_of (drop end names)) where
-  pub place_found : v ≡ w → index ≡ place_of w (words_of names)
-  unfolding place_of
-  place_found s =
-      let here : place_of w (words_of (drop at names)) ≡ 0 = rw (e, same_refl v w s) refl in
-      omega arith
-
-  pub place_more : {r : Bool} → (v ≡ w → r ≡ true) → r ≡ false
-      → (index + 1) + place_of w (words_of (drop end names)) ≡ place_of w (words_of names)
-  unfolding place_of
-  place_more f o =
-      let n : v ≡ w → ⊥ = λ s. differ (sym o ∙ f s) in
-      let on : place_of w (words_of (drop at names)) ≡ suc (place_of w (words_of (drop end names))) =
-      rw (e, same_not v w n) refl in
-      omega arith
+pub first_letter : (l w r : List ℕ) (t : Bool) → Stands l w r → eqb (get_or w 0 0) 35 ≡ t
+    → asks_of (words_of l) ≡ not t
+unfolding asks_of
+first_letter l w r t s e = rw (s.words, e) refl

@@ -7,13 +7,10 @@
 --   same_as v w       v and w are the same word
 --   place_of w ws      which of the words ws is w, counted from 0; as many as there are where it is none of them
 --   asks_of ws        a line of the words ws asks for something: its first word does not begin with #
---   name_of names ws   which of the names its first word is; 0 where it has none
 --   spaces_of l       how many spaces l begins with
---   Stands l from w   the word w stands in the line l, not before `from`: the next of the words from there on, or an
---                     empty one where there are no more
+--   Stands l w r      the word w stands in the line l, and r behind it up to the line's end: it is the first of the words
 -- Assumes nothing.
-use Rattle.std.specs.Prelude.{ℕ, suc, ◌-◌, ◌≤◌, ◌<◌, Bool, true, false, cond, not, ◌&&◌, List, [], ◌∷◌, ◌++◌, ◌≡◌, refl, eqb, length, take, drop, get_or}
-use Rattle.text.specs.declared.words.Word.{Word}
+use Rattle.std.specs.Prelude.{ℕ, suc, ◌+◌, ◌-◌, ◌≤◌, ◌<◌, Bool, true, false, cond, not, ◌&&◌, List, [], ◌∷◌, ◌++◌, ◌≡◌, refl, eqb, length, drop, get_or}
 
 unfoldable pub ended : List ℕ → List (List ℕ) → List (List ℕ)
 ended [] ws = ws
@@ -48,22 +45,15 @@ unfoldable pub asks_of : List (List ℕ) → Bool
 asks_of [] = false
 asks_of (w ∷ ws) = not (eqb (get_or w 0 0) 35)
 
-unfoldable pub name_of : List (List ℕ) → List (List ℕ) → ℕ
-name_of names [] = 0
-name_of names (w ∷ ws) = place_of w names
-
 unfoldable pub spaces_of : List ℕ → ℕ
 spaces_of [] = 0
 spaces_of (x ∷ l) = cond (eqb x 32) (suc (spaces_of l)) 0
 
-pub record Stands (l : List ℕ) (from : ℕ) (w : Word) : Type 0 where
-  pub after : from ≤ w.start
-  pub order : w.start ≤ w.end
-  pub inside : w.end ≤ length l
-  pub some : w.start < w.end
-      → words_of (drop from l) ≡ take (w.end - w.start) (drop w.start l) ∷ words_of (drop w.end l)
-  pub none : w.end ≤ w.start → words_of (drop from l) ≡ []
-  pub rest : words_of (drop w.end l) ≡ rest_of (words_of (drop from l))
+pub record Stands (l w r : List ℕ) : Type 0 where
+  pub some : 0 < length w
+  pub inside : length w + length r ≤ length l
+  pub place : drop (length l - (length w + length r)) l ≡ w ++ r
+  pub words : words_of l ≡ w ∷ words_of r
 
 -- " ab  c" has the words "ab" and "c"; which of "a b" is "b", and "c"
 two_words : words_of (0x20 ∷ 0x61 ∷ 0x62 ∷ 0x20 ∷ 0x20 ∷ 0x63 ∷ []) ≡ (0x61 ∷ 0x62 ∷ []) ∷ (0x63 ∷ []) ∷ []

@@ -6,6 +6,5 @@ pub mod fault;
 pub mod lines;
 pub mod lists;
 pub mod numbers;
-pub mod print;
-mod scan;
+pub mod output;
 pub mod words;

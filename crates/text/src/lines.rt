@@ -1,35 +1,40 @@
 // Lines of a text that comes piece by piece. What is held of it stands in a buffer that the caller lends, and the state
-// is a struct by value. A line ends with a newline; one that the buffer can't hold is passed over.
+// is a struct by value beside it: a line is read out of the buffer while the state goes on. A line ends with a newline;
+// one that the buffer can't hold is passed over.
 ghost use Rattle.std.specs.Prelude.{◌≡◌, ◌≤◌, ◌+◌, length, take, drop};
-ghost use Rattle.text.specs.Lines.{line_of, passed_of, stop_of, Holds};
+ghost use Rattle.text.specs.Lines.{found_of, line_of, stop_of, Holds, Within};
 
-use crate::{scan, words};
+use crate::words;
+
+// A line too long to be held is being passed over, and quietly where it is a comment.
+#[derive(Clone, Copy, Debug, PartialEq, Eq)]
+pub enum Passing {
+    Told,
+    Quiet,
+}
 
 // The text is held up to `filled`. The open line begins at `start`, and no newline stands from there up to `looked`.
-// A line too long to be held is being passed over, and quietly where it is a comment.
 #[derive(Clone, Copy)]
 pub struct Held {
     pub filled: usize,
     pub start: usize,
     pub looked: usize,
-    pub passing: bool,
-    pub quiet: bool,
+    pub passing: Option<Passing>,
 }
 
-// What stands next: a whole line, the end of one that was too long, or a line that is still open.
-#[derive(Clone, Copy)]
-pub enum Kind {
-    Whole,
+// What stands next: a whole line from `start` up to `stop`, the end of one that was too long, or a line that is still
+// open.
+#[derive(Clone, Copy, Debug, PartialEq, Eq)]
+pub enum Found {
+    Whole { start: usize, stop: usize },
     TooLong,
     Open,
 }
 
-// The next line: where it stands, and what is held after it. Only a whole line has bytes.
+// The next line, and what is held after it.
 #[derive(Clone, Copy)]
 pub struct Line {
-    pub kind: Kind,
-    pub start: usize,
-    pub stop: usize,
+    pub found: Found,
     pub held: Held,
 }
 
@@ -37,62 +42,48 @@ pub struct Line {
 pub fn next(text: &[u8], held: Held) -> Line
     requires { Holds held (length text.now) }
     ensures holds { Holds result.held (length text.now) }
-    ensures start_le_stop { (result.start ≤ result.stop) × (result.stop ≤ length text.now) }
+    ensures within { Within result.found (length text.now) }
     ensures value { result ≡ line_of text.now held }
 {
-    let filled = held.filled;
-    let start = held.start;
-    let passing = held.passing;
-    let quiet = held.quiet;
-    let end = scan::find(text, held.looked, filled, b'\n');
-    if end < filled {
-        let after = end + 1;
-        let rest = Held {
-            filled,
-            start: after,
-            looked: after,
-            passing: false,
-            quiet: false,
-        };
-        if passing {
-            let kind = passed(quiet);
-            return Line {
-                kind,
-                start: 0,
-                stop: 0,
-                held: rest,
-            };
-        }
-        let stop = without_return(text, start, end);
-        return Line {
-            kind: Kind::Whole,
-            start,
-            stop,
-            held: rest,
-        };
-    }
-    Line {
-        kind: Kind::Open,
-        start: 0,
-        stop: 0,
-        held: Held {
-            filled,
-            start,
-            looked: filled,
-            passing,
-            quiet,
+    let left = &text[held.looked..held.filled];
+    match left.iter().position(|byte| *byte == b'\n') {
+        None => Line {
+            found: Found::Open,
+            held: Held {
+                looked: held.filled,
+                ..held
+            },
         },
+        Some(passed) => {
+            let end = held.looked + passed;
+            Line {
+                found: found_at(text, held, end),
+                held: Held {
+                    filled: held.filled,
+                    start: end + 1,
+                    looked: end + 1,
+                    passing: None,
+                },
+            }
+        }
     }
 }
 
-// What the end of a line is that was too long.
-fn passed(quiet: bool) -> Kind
-    ensures { result ≡ passed_of quiet }
+// What the newline at `end` ends.
+fn found_at(text: &[u8], held: Held, end: usize) -> Found
+    requires holds { Holds held (length text.now) }
+    requires end_in_bounds { (held.start ≤ end) × (end ≤ length text.now) }
+    ensures within { Within result (length text.now) }
+    ensures value { result ≡ found_of held.passing text.now held.start end }
 {
-    if quiet {
-        return Kind::Whole;
+    match held.passing {
+        Some(Passing::Told) => Found::TooLong,
+        Some(Passing::Quiet) => Found::Whole { start: 0, stop: 0 },
+        None => Found::Whole {
+            start: held.start,
+            stop: without_return(text, held.start, end),
+        },
     }
-    Kind::TooLong
 }
 
 // The line's end without one carriage return.
@@ -101,98 +92,82 @@ fn without_return(text: &[u8], start: usize, end: usize) -> usize
     ensures lower_bound { (start ≤ result) × (result ≤ end) }
     ensures value { result ≡ stop_of text.now start end }
 {
-    if start < end {
-        if text[end - 1] == b'\r' {
-            return end - 1;
-        }
+    if start < end && text[end - 1] == b'\r' {
+        return end - 1;
     }
     end
 }
 
-// Makes room for a read, which goes to `filled`: the open line goes to the front. Where it fills the text it is passed
-// over: spaces before a first word count for nothing, and a comment is passed over quietly.
-pub fn to_front(text: &mut [u8], held: Held) -> Held
-    requires { Holds held (length text.old) }
-    ensures holds { Holds result (length text.new) }
-    ensures text_after { take result.filled text.new ≡ take result.filled (drop held.start text.old) }
-{
-    if held.passing {
-        return passed_over(held.quiet);
+impl Held {
+    // An open line from the front up to a place, without a newline.
+    pub fn open_to(filled: usize) -> Held
+        ensures { (result.start ≡ 0) × (result.looked ≡ filled) × (result.filled ≡ filled) }
+    {
+        Held {
+            filled,
+            start: 0,
+            looked: filled,
+            passing: None,
+        }
     }
-    let start = held.start;
-    let count = held.filled - start;
-    moved(text, start, count);
-    if count < text.len() {
-        return open_to(count);
-    }
-    let word = words::next(text, 0);
-    let first = word.start;
-    if first < text.len() {
-        let quiet = text[first] == b'#';
-        return passed_over(quiet);
-    }
-    open_to(0)
-}
 
-// An open line from the front up to a place, without a newline.
-pub fn open_to(filled: usize) -> Held
-    ensures { (result.start ≡ 0) × (result.looked ≡ filled) × (result.filled ≡ filled) }
-{
-    Held {
-        filled,
-        start: 0,
-        looked: filled,
-        passing: false,
-        quiet: false,
+    fn passed_over(passing: Passing) -> Held
+        ensures { (result.start ≡ 0) × (result.looked ≡ 0) × (result.filled ≡ 0) }
+    {
+        Held {
+            filled: 0,
+            start: 0,
+            looked: 0,
+            passing: Some(passing),
+        }
     }
-}
 
-fn passed_over(quiet: bool) -> Held
-    ensures { (result.start ≡ 0) × (result.looked ≡ 0) × (result.filled ≡ 0) }
-{
-    Held {
-        filled: 0,
-        start: 0,
-        looked: 0,
-        passing: true,
-        quiet,
+    // Makes room for a read, which goes to `filled`: the open line goes to the front. Where it fills the text it is
+    // passed over: spaces before a first word count for nothing, and a comment is passed over quietly.
+    pub fn to_front(self, text: &mut [u8]) -> Held
+        requires { Holds self (length text.old) }
+        ensures holds { Holds result (length text.new) }
+        ensures text_after { take result.filled text.new ≡ take result.filled (drop self.start text.old) }
+    {
+        if let Some(passing) = self.passing {
+            return Held::passed_over(passing);
+        }
+        text.copy_within(self.start..self.filled, 0);
+        let count = self.filled - self.start;
+        if count < text.len() {
+            return Held::open_to(count);
+        }
+        match words::next(text) {
+            None => Held::open_to(0),
+            Some((word, _)) if word.starts_with(b"#") => Held::passed_over(Passing::Quiet),
+            Some(_) => Held::passed_over(Passing::Told),
+        }
     }
-}
 
-// So many bytes from a place on, moved to the front.
-fn moved(text: &mut [u8], start: usize, count: usize)
-    requires { start + count ≤ length text.old }
-    ensures { take count text.new ≡ take count (drop start text.old) }
-{
-    if start == 0 {
-        return;
+    // So many bytes were read behind what is held.
+    pub fn with_more(self, text: &[u8], count: usize) -> Held
+        requires holds { Holds self (length text.now) }
+        requires count_in_bounds { self.filled + count ≤ length text.now }
+        ensures { Holds result (length text.now) }
+    {
+        Held {
+            filled: self.filled + count,
+            ..self
+        }
     }
-    let mut i = 0;
-    while i < count {
-        text[i] = text[start + i];
-        i += 1;
-    }
-}
 
-// So many bytes were read behind what is held.
-pub fn with_more(text: &[u8], mut held: Held, count: usize) -> Held
-    requires holds { Holds held (length text.now) }
-    requires count_in_bounds { held.filled + count ≤ length text.now }
-    ensures { Holds result (length text.now) }
-{
-    held.filled += count;
-    held
-}
-
-// A newline ends the last line.
-pub fn with_newline(text: &mut [u8], mut held: Held) -> Held
-    requires { Holds held (length text.old) }
-    ensures { Holds result (length text.old) }
-{
-    let filled = held.filled;
-    if filled < text.len() {
-        text[filled] = b'\n';
-        held.filled = filled + 1;
+    // A newline ends the last line.
+    pub fn with_newline(self, text: &mut [u8]) -> Held
+        requires { Holds self (length text.old) }
+        ensures { Holds result (length text.old) }
+    {
+        if self.filled >= text.len() {
+            return self;
+        }
+        text[self.filled] = b'\n';
+        Held {
+            filled: self.filled + 1,
+            ..self
+        }
     }
-    held
 }

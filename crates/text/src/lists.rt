@@ -1,47 +1,30 @@
 // Lists of numbers on a line.
-ghost use Rattle.std.specs.Prelude.{◌≤◌, length, drop};
+ghost use Rattle.std.specs.Prelude.{◌≡◌, ◌≤◌, length, IfOk};
 ghost use Rattle.text.specs.Numbers.{list_of, Lists};
 ghost use Rattle.text.specs.Words.{words_of};
 
 use crate::fault::Fault;
-use crate::numbers::{HEX, Number, spelled};
-use crate::words::next;
+use crate::numbers::HEX;
+use crate::words::{is_last, next};
 
-// How many numbers were read, or what was wrong with one.
-#[derive(Clone, Copy)]
-pub enum Listed {
-    Count(usize),
-    Wrong(Fault),
-}
-
-// The words from a place on, as hex numbers, none above the limit.
-pub fn read(line: &[u8], from: usize, most: u64, numbers: &mut [u16]) -> Listed
-    requires from_in_bounds { from ≤ length line.now }
-    requires most_bound { most ≤ 65535 }
-    ensures { Lists result numbers.new (list_of most (length numbers.old) (words_of (drop from line.now))) }
+// The words of a line, as hex numbers, none above the limit: how many there are.
+pub fn read(line: &[u8], most: u64, numbers: &mut [u16]) -> Result<usize, Fault>
+    requires { most ≤ 65535 }
+    ensures value { Lists result numbers.new (list_of most (length numbers.old) (words_of line.now)) }
+    ensures count_in_bounds { IfOk result (λ n. n ≤ length numbers.new) }
+    ensures room { length numbers.new ≡ length numbers.old }
 {
-    let mut count = 0;
-    let mut at = from;
-    while at < line.len() {
-        let word = next(line, at);
-        let start = word.start;
-        let end = word.end;
-        if start >= end {
-            return Listed::Count(count);
-        }
-        if count >= numbers.len() {
-            return Listed::Wrong(Fault::Count);
-        }
-        match spelled(&line[start..end], HEX, most) {
-            Number::Wrong(fault) => {
-                return Listed::Wrong(fault);
-            }
-            Number::Value(value) => {
-                numbers[count] = value;
-                count += 1;
-                at = end;
-            }
-        }
+    let spelling = HEX.up_to(most);
+    let mut rest = line;
+    for count in 0..numbers.len() {
+        let Some((word, behind)) = next(rest) else {
+            return Ok(count);
+        };
+        numbers[count] = spelling.number(word)?;
+        rest = behind;
     }
-    Listed::Count(count)
+    if !is_last(rest) {
+        return Err(Fault::Count);
+    }
+    Ok(numbers.len())
 }

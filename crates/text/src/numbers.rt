@@ -1,102 +1,104 @@
 // Numbers as words spell them.
-ghost use Rattle.std.specs.Prelude.{◌≡◌, ◌≤◌, length, drop};
-ghost use Rattle.text.specs.Numbers.{digit_of, first_of, last_of, long_of, number_of, Within};
-ghost use Rattle.text.specs.Words.{words_of};
+ghost use Rattle.std.specs.Prelude.{◌≡◌, ◌-◌, ◌≤◌, ◌<◌, length, drop, IfOk, MatchResult};
+ghost use Rattle.text.specs.Numbers.{digit_of, first_of, last_of, long_of, number_in, number_of};
+ghost use Rattle.text.specs.declared.fault.Fault.{Fault};
+ghost use Rattle.text.specs.Words.{rest_of, words_of};
 
 use crate::fault::Fault;
 use crate::words::{is_last, next, past_word};
 
-// The bases of numbers, and the largest number of all.
-pub const DECIMAL: u64 = 10;
+// How a number is spelled: in digits of a base, and none above the most.
+#[derive(Clone, Copy)]
+pub struct Spelling {
+    pub base: u64,
+    pub most: u64,
+    ghost base_bound: { base ≤ 16 },
+    ghost most_bound: { most ≤ 65535 },
+}
 
-pub const HEX: u64 = 16;
-
+// The largest number of all.
 pub const MOST: u64 = 65535;
 
-// A number that was read, or what was wrong with it.
-#[derive(Clone, Copy)]
-pub enum Number {
-    Value(u16),
-    Wrong(Fault),
+// The two bases, with numbers up to the largest.
+pub const DECIMAL: Spelling = Spelling {
+    base: 10,
+    most: MOST,
+};
+
+pub const HEX: Spelling = Spelling {
+    base: 16,
+    most: MOST,
+};
+
+impl Spelling {
+    // The same, with numbers up to another one.
+    pub fn up_to(self, most: u64) -> Spelling
+        requires { most ≤ 65535 }
+        ensures base_value { result.base ≡ self.base }
+        ensures most_value { result.most ≡ most }
+    {
+        Spelling {
+            base: self.base,
+            most,
+        }
+    }
+
+    // The number that a word spells.
+    pub fn number(self, word: &[u8]) -> Result<u16, Fault>
+        ensures value { result ≡ number_of self.base self.most word.now }
+        ensures within { IfOk result (λ n. n ≤ self.most) }
+    {
+        let value = spelled_long(word, self.base, self.most)?;
+        Ok(value as u16)
+    }
+
+    // The number that the next word spells, and what stands behind it.
+    pub fn next(self, line: &[u8]) -> Result<(u16, &[u8]), Fault>
+        ensures value { number_in result ≡ first_of self.base self.most (words_of line.now) }
+        ensures words { IfOk result (λ n. words_of n.1.now ≡ rest_of (words_of line.now)) }
+        ensures place { IfOk result (λ n. n.1.now ≡ drop (length line.now - length n.1.now) line.now) }
+        ensures within { IfOk result (λ n. n.0 ≤ self.most) }
+    {
+        let (word, rest) = next(line).ok_or(Fault::Missing)?;
+        Ok((self.number(word)?, rest))
+    }
+
+    // The number that the next word spells, where it is the last one.
+    pub fn last(self, line: &[u8]) -> Result<u16, Fault>
+        ensures value { result ≡ last_of self.base self.most (words_of line.now) }
+        ensures within { IfOk result (λ n. n ≤ self.most) }
+    {
+        if !is_last(past_word(line)) {
+            return Err(Fault::Extra);
+        }
+        let (number, _) = self.next(line)?;
+        Ok(number)
+    }
 }
 
-// The same of a number of thirty-two bits.
-#[derive(Clone, Copy)]
-pub enum Long {
-    Value(u32),
-    Wrong(Fault),
-}
-
-// The number that a word spells in digits of the base, none above the limit.
-pub fn spelled_long(word: &[u8], base: u64, most: u64) -> Long
+// The number of up to thirty-two bits that a word spells in digits of the base, none above the limit.
+pub fn spelled_long(word: &[u8], base: u64, most: u64) -> Result<u32, Fault>
     requires { (base ≤ 16) × (most ≤ 4294967295) }
     ensures value { result ≡ long_of base most 0 word.now }
-    ensures within { Within most result }
+    ensures within { IfOk result (λ n. n ≤ most) }
 {
     let mut value: u64 = 0;
-    let mut i = 0;
-    while i < word.len() {
-        let d = digit(word[i]);
-        if d >= base {
-            return Long::Wrong(Fault::Digits);
-        }
-        value = value * base + d;
+    for &byte in word {
+        value = value * base + digit(byte, base)?;
         if value > most {
-            return Long::Wrong(Fault::TooLarge);
+            return Err(Fault::TooLarge);
         }
-        i += 1;
     }
-    Long::Value(value as u32)
+    Ok(value as u32)
 }
 
-// The same, of sixteen bits.
-pub fn spelled(word: &[u8], base: u64, most: u64) -> Number
-    requires { (base ≤ 16) × (most ≤ 65535) }
-    ensures { result ≡ number_of base most word.now }
+// What a digit of the base counts, in either case.
+fn digit(byte: u8, base: u64) -> Result<u64, Fault>
+    requires { base ≤ 16 }
+    ensures { MatchResult result (λ d. (d ≡ digit_of byte) × (d < base)) (λ f. (f ≡ Fault.Digits) × (base ≤ digit_of byte)) }
 {
-    match spelled_long(word, base, most) {
-        Long::Wrong(fault) => Number::Wrong(fault),
-        Long::Value(value) => Number::Value(value as u16),
+    match char::from(byte).to_digit(16) {
+        Some(digit) if u64::from(digit) < base => Ok(u64::from(digit)),
+        _ => Err(Fault::Digits),
     }
-}
-
-// What a digit counts, in hex of either case; 16 for any other byte.
-fn digit(byte: u8) -> u64
-    ensures value { result ≡ digit_of byte }
-    ensures upper_bound { result ≤ 16 }
-{
-    match byte {
-        b'0'..=b'9' => (byte - b'0') as u64,
-        b'A'..=b'F' => (byte - b'A') as u64 + 10,
-        b'a'..=b'f' => (byte - b'a') as u64 + 10,
-        _ => 16,
-    }
-}
-
-// The next word, as a number.
-pub fn next_number(line: &[u8], from: usize, base: u64, most: u64) -> Number
-    requires from_in_bounds { from ≤ length line.now }
-    requires base_bound { (base ≤ 16) × (most ≤ 65535) }
-    ensures { result ≡ first_of base most (words_of (drop from line.now)) }
-{
-    let word = next(line, from);
-    let start = word.start;
-    let end = word.end;
-    if start < end {
-        return spelled(&line[start..end], base, most);
-    }
-    Number::Wrong(Fault::Missing)
-}
-
-// The next word, as a number, where it is the last one.
-pub fn last_number(line: &[u8], from: usize, base: u64, most: u64) -> Number
-    requires from_in_bounds { from ≤ length line.now }
-    requires base_bound { (base ≤ 16) × (most ≤ 65535) }
-    ensures { result ≡ last_of base most (words_of (drop from line.now)) }
-{
-    let after = past_word(line, from);
-    if is_last(line, after) {
-        return next_number(line, from, base, most);
-    }
-    Number::Wrong(Fault::Extra)
 }

@@ -1,112 +1,47 @@
-// Words of a line, and the names among them.
-ghost use Rattle.std.specs.Prelude.{◌≡◌, ◌≤◌, ◌+◌, length, drop};
-ghost use Rattle.text.specs.Words.{asks_of, name_of, none_of, place_of, rest_of, spaces_of, words_of, Stands};
+// Words of a line. One or more spaces separate them.
+ghost use Rattle.std.specs.Prelude.{[], ◌≡◌, ◌-◌, true, false, length, drop, IfSome, MatchOption};
+ghost use Rattle.text.specs.Words.{asks_of, none_of, rest_of, words_of, Stands};
 
-use crate::scan;
-
-// Where a word stands: from start up to end, which is no part of it. An empty word stands where the line has no more.
-#[derive(Clone, Copy)]
-pub struct Word {
-    pub start: usize,
-    pub end: usize,
-}
-
-// A line's first word: whether it asks for anything, its place among the names, and the place after it.
-#[derive(Clone, Copy)]
-pub struct First {
-    pub asks: bool,
-    pub name: usize,
-    pub after: usize,
-}
-
-// The next word from a place on.
-pub fn next(line: &[u8], from: usize) -> Word
-    requires { from ≤ length line.now }
-    ensures { Stands line.now from result }
+// The next word, and what stands behind it.
+pub fn next(line: &[u8]) -> Option<(&[u8], &[u8])>
+    ensures { MatchOption result (words_of line.now ≡ []) (λ w. Stands line.now w.0.now w.1.now) }
 {
-    let start = past_spaces(line, from);
-    let end = scan::find(line, start, line.len(), b' ');
-    Word { start, end }
+    let start = line.iter().position(|byte| *byte != b' ')?;
+    let line = &line[start..];
+    let end = line
+        .iter()
+        .position(|byte| *byte == b' ')
+        .unwrap_or(line.len());
+    Some(line.split_at(end))
 }
 
-// The first place from `from` on that has no space.
-fn past_spaces(line: &[u8], from: usize) -> usize
-    requires { from ≤ length line.now }
-    ensures lower_bound { (from ≤ result) × (result ≤ length line.now) }
-    ensures value { result ≡ from + spaces_of (drop from line.now) }
+// What stands behind the next word; nothing where there is none.
+pub fn past_word(line: &[u8]) -> &[u8]
+    ensures place { result.now ≡ drop (length line.now - length result.now) line.now }
+    ensures words { words_of result.now ≡ rest_of (words_of line.now) }
 {
-    let mut at = from;
-    while at < line.len() {
-        if line[at] != b' ' {
-            return at;
-        }
-        at += 1;
+    match next(line) {
+        Some((_, rest)) => rest,
+        None => &[],
     }
-    at
 }
 
-// The place after the next word.
-pub fn past_word(line: &[u8], from: usize) -> usize
-    requires { from ≤ length line.now }
-    ensures upper_bound { result ≤ length line.now }
-    ensures line_value { words_of (drop result line.now) ≡ rest_of (words_of (drop from line.now)) }
+// Whether no word stands there.
+pub fn is_last(line: &[u8]) -> bool
+    ensures { result ≡ none_of (words_of line.now) }
 {
-    let word = next(line, from);
-    word.end
+    next(line).is_none()
 }
 
-// Whether no word stands from a place on.
-pub fn is_last(line: &[u8], from: usize) -> bool
-    requires { from ≤ length line.now }
-    ensures { result ≡ none_of (words_of (drop from line.now)) }
+// The first word of a line that asks for something, and what stands behind it. A line without a word asks for nothing,
+// and so does one whose first word begins with #.
+pub fn first_word(line: &[u8]) -> Option<(&[u8], &[u8])>
+    ensures asks { MatchOption result (asks_of (words_of line.now) ≡ false) (λ w. asks_of (words_of line.now) ≡ true) }
+    ensures stands { IfSome result (λ w. Stands line.now w.0.now w.1.now) }
 {
-    let word = next(line, from);
-    if word.start < word.end {
-        return false;
+    let (word, rest) = next(line)?;
+    if word[0] == b'#' {
+        return None;
     }
-    true
-}
-
-// Which of the names a word is, counted from 0; as many as there are names where it is none of them.
-pub fn index_of(names: &[u8], word: &[u8]) -> usize
-    ensures { result ≡ place_of word.now (words_of names.now) }
-{
-    let mut index = 0;
-    let mut at = 0;
-    while at < names.len() {
-        let name = next(names, at);
-        let start = name.start;
-        let end = name.end;
-        if start >= end {
-            return index;
-        }
-        if check::same(&names[start..end], word) {
-            return index;
-        }
-        index += 1;
-        at = end;
-    }
-    index
-}
-
-// A line without a word asks for nothing, and so does one whose first word begins with #.
-pub fn first_word(line: &[u8], names: &[u8]) -> First
-    ensures after_in_bounds { result.after ≤ length line.now }
-    ensures line_value { words_of (drop result.after line.now) ≡ rest_of (words_of line.now) }
-    ensures asks_value { result.asks ≡ asks_of (words_of line.now) }
-    ensures name_value { result.name ≡ name_of (words_of names.now) (words_of line.now) }
-{
-    let word = next(line, 0);
-    let start = word.start;
-    let after = word.end;
-    if start < after {
-        let asks = line[start] != b'#';
-        let name = index_of(names, &line[start..after]);
-        return First { asks, name, after };
-    }
-    First {
-        asks: false,
-        name: 0,
-        after,
-    }
+    Some((word, rest))
 }

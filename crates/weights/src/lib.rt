@@ -1,4 +1,4 @@
-// What register values and symbols are made of: single bits, and bytes.
+// What register values and symbols are made of: single bits.
 #![tactic(auto)]
 
 ghost use Rattle.std.specs.Prelude.{◌≡◌, ◌≤◌};
@@ -10,12 +10,4 @@ pub fn bit(set: bool, weight: u16) -> u16
     ensures upper_bound { result ≤ weight }
 {
     if set { weight } else { 0 }
-}
-
-// A byte as a number of sixteen bits.
-pub fn wide(byte: u8) -> u16
-    ensures value { result ≡ byte }
-    ensures upper_bound { result ≤ 255 }
-{
-    byte as u16
 }

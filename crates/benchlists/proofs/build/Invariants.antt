@@ -1,13 +1,12 @@
--- `benchlists::build` meets its contract: a symbol takes four bytes.
+-- `benchlists::build` meets its contract: a symbol takes four bytes, and those so far stand behind what stood there.
 -- Assumes nothing.
-use Prim.Native.Nat.{◌≤◌, ◌-◌, ◌+◌, ◌*◌}
-use mathlib.Core.Path.{◌≡◌}
-use lib.ListN.{length}
+use Rattle.std.proofs.Common.{◌≡◌, ◌≤◌, ◌+◌, ◌*◌, ◌++◌, length, take}
+use Rattle.benchlists.specs.Listed.{symbols_of}
 use Rattle.benchlists.proofs.build.Given as goal
 
 abbrev pub invariant-loop-i : goal.invariant-loop-i
 invariant-loop-i l =
-    (l.put ≤ l.at + 4 * l.i) × (l.i ≤ 12) × (length l.out ≡ length l.initial.out)
-
-abbrev pub decreases-loop-i : goal.decreases-loop-i
-decreases-loop-i l = 12 - l.i
+    (l.out.at ≤ l.fn.out.at + 4 * l.i)
+    × (l.out.bytes.ghost_name ≡ l.fn.out.bytes.ghost_name)
+    × (length l.out.bytes.now ≡ length l.fn.out.bytes.now)
+    × (take l.out.at l.out.bytes.now ≡ take l.fn.out.at l.fn.out.bytes.now ++ symbols_of l.i l.symbol-items)

@@ -7,26 +7,23 @@ use Rattle.frame.proofs.ReasonLaws.{check_length, check_above, check_reason}
 use Rattle.frame.proofs.check.Goals as goal
 use Rattle.frame.proofs.check.Goals.{After-is_accepted}
 
-pub returns-then-list-ne-SYMBOLS : goal.returns-then-list-ne-SYMBOLS
-returns-then-list-ne-SYMBOLS c = check_length c.args.list.now c.if-list-ne-SYMBOLS.true
+pub returns-in_default : goal.returns-in_default
+returns-in_default c = check_length c.args.list.now c.in_default.ensures.1
 
-pub returns-then-some_above : goal.returns-then-some_above
-returns-then-some_above c =
-    check_above c.args.list.now c.if-list-ne-SYMBOLS.false
-    (sym c.some_above.ensures ∙ c.if-some_above.true)
-
-pub reason_of-reason-requires : goal.reason_of-reason-requires
-reason_of-reason-requires c = c.if-list-ne-SYMBOLS.false
+pub returns-then-above : goal.returns-then-above
+returns-then-above c =
+    let whole = c.in-Ok.ensures.1 in
+    check_above c.args.list.now whole.long (rw whole.same at (sym c.above.ensures ∙ c.if-above.true))
 
 -- twelve symbols, none above the largest: the reason decides
 decided : (b : Bool) (c : After-is_accepted) → c.is_accepted.result ≡ b
     → record { answer = cond b Done NotAcceptable; reason = c.reason_of-reason.result }
     ≡ checked_of c.args.list.now
 decided b c r =
-    let t = c in
-    check_reason t.args.list.now b _ t.if-list-ne-SYMBOLS.false
-    (sym t.some_above.ensures ∙ t.if-some_above.false) c.reason_of-reason.ensures
-    (sym (ap is_accepted c.reason_of-reason.ensures) ∙ (sym c.is_accepted.ensures ∙ r))
+    let whole = c.in-Ok.ensures.1 in
+    let e = rw whole.same at c.reason_of-reason.ensures in
+    check_reason c.args.list.now b _ whole.long (rw whole.same at (sym c.above.ensures ∙ c.if-above.false)) e
+    (sym (ap is_accepted e) ∙ (sym c.is_accepted.ensures ∙ r))
 
 pub returns-then-is_accepted : goal.returns-then-is_accepted
 returns-then-is_accepted c = decided true (goal.at.returns-then-is_accepted c).After-is_accepted c.if-is_accepted.true

@@ -1,11 +1,9 @@
 -- `frame::crc` meets its contract: its three words are the ten bytes. Assumes nothing.
-use Rattle.frame.proofs.WordLaws.{ten_crc}
+use borrow.Author.Rules.{rules}
+use Rattle.frame.proofs.WordLaws.{ten_streams}
 use Rattle.frame.proofs.crc.Goals as goal
 
 pub returns : goal.returns
 returns c =
-    let at = c in
-    ten_crc at.args.bytes c.crc_of.result c.four-first.result
-    c.four-second.result c.two-third.result at.well_formed.0.1.0.1 c.crc_of.type_inv
-    c.four-first.ensures c.four-second.ensures c.two-third.ensures
-    c.crc_of.ensures
+    ten_streams c.args.bytes c.crc_of.result c.four.result c.four-2.result c.two.result (search rules) c.crc_of.type_inv
+    c.four.ensures c.four-2.ensures c.two.ensures c.crc_of.ensures

@@ -1,22 +1,25 @@
 -- `present` meets its contract: it is refused, or the call on the end that was read.
 -- Assumes nothing.
-use mathlib.Core.Bool.{Bool}
-use mathlib.Core.Path.{refl, ap, ◌∙◌}
+use Prim.Native.Nat.{ℕ}
+use mathlib.Core.Path.{◌≡◌, ap, ◌∙◌}
+use borrow.Author.Rules.{rules}
 use Rattle.answer.specs.declared.Answer.TheVariants.{Done}
+use Rattle.end.specs.declared.End.{End}
+use Rattle.end.specs.Good.{present_of}
 use Rattle.recordspec.specs.Record.{flag}
 use Rattle.recordspec.specs.Results.{presenting}
-use Rattle.recordspec.proofs.Refusing.{good_length}
-use Rattle.record.proofs.Gave.{gave_bad, gave_done}
+use Rattle.record.specs.declared.Reply.{Reply}
+use Rattle.record.proofs.Gave.{refused_reply, good_reply}
 use Rattle.record.proofs.present.Goals as goal
 
-pub returns-then-refused : goal.returns-then-refused
-returns-then-refused c = (gave_bad _ _ c.refused.ensures c.if-refused.true c.bad_record.ensures).0
+abbrev answered : ℕ → Reply
+answered v = record { answer = Done; value = v }
 
-pub end_of-end-requires : goal.end_of-end-requires
-end_of-end-requires c = good_length _ c.refused.ensures c.if-refused.false
+pub returns-in_default : goal.returns-in_default
+returns-in_default c = refused_reply presenting _ c.in_default.ensures
 
 pub returns : goal.returns
 returns c =
-    (gave_done presenting _ _ c.refused.ensures c.if-refused.false
-    (ap (λ (b : Bool). record { answer = Done; value = flag b; end = c.end_of-end.result }) c.present-there.ensures
-    ∙ ap presenting c.end_of-end.ensures) refl refl).0
+    let value : c.from.result ≡ flag (present_of c.in-Some.end) = search rules in
+    ap answered (value ∙ ap (λ (e : End). flag (present_of e)) c.in-Some.ensures.1)
+    ∙ good_reply presenting _ c.in-Some.ensures.0

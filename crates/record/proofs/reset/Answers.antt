@@ -10,6 +10,6 @@ unfolding resetting
 returns c =
     let a = c.args.area.now in
     record {
-      value = c.fill.ensures.value ∙ ap (λ (x : End). (filled x a).reply) c.reset-fresh.ensures;
-      area_after = c.fill.ensures.area_after ∙ ap (λ (x : End). (filled x a).bytes) c.reset-fresh.ensures;
+      value = c.fill.ensures.value ∙ ap (λ (x : End). (filled x a).reply) c.reset.ensures;
+      area_after = c.fill.ensures.area_after ∙ ap (λ (x : End). (filled x a).bytes) c.reset.ensures;
     }

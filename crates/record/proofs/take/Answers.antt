@@ -7,6 +7,6 @@ use Rattle.record.proofs.take.Goals as goal
 
 pub returns : goal.returns
 returns c = record {
-  value = take_reply _ _ (ap (λ (x : Told). x.answer) c.take_reason-told.ensures.value);
-  area_after = c.take_reason-told.ensures.area_after;
+  value = take_reply _ _ (ap (λ (x : Told). x.answer) c.take_reason-answer.ensures.value);
+  area_after = c.take_reason-answer.ensures.area_after;
 }

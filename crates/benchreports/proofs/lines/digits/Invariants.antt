@@ -1,19 +1,15 @@
 -- `benchreports::lines::digits` meets its contract. What is printed, and the digits of the bytes to come, are those of
 -- the whole block.
 -- Assumes nothing.
-use Prim.Native.Nat.{◌≤◌, ◌-◌, ◌+◌, ◌*◌}
-use mathlib.Core.List.{◌++◌}
-use mathlib.Core.Path.{◌≡◌}
-use lib.ListN.{length, take, drop}
+use Rattle.std.proofs.Common.{◌++◌, ◌≡◌, ◌+◌, ◌*◌, length, take, drop}
 use Rattle.benchreports.specs.Told.{digits_of}
 use Rattle.benchreports.proofs.lines.digits.Given as goal
 
-abbrev pub invariant-loop-i : goal.invariant-loop-i
-invariant-loop-i l =
-    (l.put ≡ l.at + 2 * l.i)
-    × (l.i ≤ 128)
-    × (length l.out ≡ length l.initial.out)
-    × (take l.put l.out ++ digits_of (drop l.i l.block) ≡ take l.at l.initial.out ++ digits_of l.block)
-
-abbrev pub decreases-loop-i : goal.decreases-loop-i
-decreases-loop-i l = 128 - l.i
+abbrev pub invariant-loop-byte : goal.invariant-loop-byte
+invariant-loop-byte l = record {
+  place : l.out.at ≡ l.initial.out.at + 2 * l.byte-index;
+  same_reference : l.out.bytes.ghost_name ≡ l.initial.out.bytes.ghost_name;
+  room : length l.out.bytes.now ≡ length l.initial.out.bytes.now;
+  written : take l.out.at l.out.bytes.now ++ digits_of (drop l.byte-index l.byte-items)
+      ≡ take l.initial.out.at l.initial.out.bytes.now ++ digits_of l.byte-items;
+}

@@ -1,12 +1,15 @@
--- `consolecommands::dump::joined` meets its contract: a comma and four digits are the most that a value takes.
+-- `consolecommands::dump::joined` meets its contract: four digits are the most that a value takes, and with a comma before
+-- it five. What was printed so far are the elements before this one.
 -- Assumes nothing.
-use Prim.Native.Nat.{◌≤◌, ◌-◌, ◌+◌, ◌*◌}
-use mathlib.Core.Path.{◌≡◌}
-use lib.ListN.{length}
+use Rattle.std.proofs.Common.{ℕ, List, ◌≡◌, ◌≤◌, ◌+◌, ◌*◌, ◌++◌}
+use Rattle.text.specs.Written.{Kept, written}
+use Rattle.consolecommands.specs.Dump.{Elements}
 use Rattle.consolecommands.proofs.dump.joined.Given as goal
 
 abbrev pub invariant-loop-i : goal.invariant-loop-i
-invariant-loop-i l = (l.put ≤ l.at + 5 * l.i) × (l.i ≤ length l.values) × (length l.out ≡ length l.initial.out)
-
-abbrev pub decreases-loop-i : goal.decreases-loop-i
-decreases-loop-i l = length l.values - l.i
+invariant-loop-i g l =
+    (l.out.at ≤ l.fn.out.at + 5 * l.i)
+    × Kept l.fn.out l.out
+    × ((text : List ℕ)
+    × Elements (goal.V-post g l.value l.field) l.i text
+    × (written l.out ≡ written l.fn.out ++ text))

@@ -5,6 +5,4 @@ use Rattle.end.proofs.good.bad.Goals as goal
 
 pub returns : goal.returns
 unfolding bad
-returns c =
-    let a = c in
-    rw (a.any_above.ensures, a.any_above-2.ensures) (simp or_assoc)
+returns c = rw (c.above.ensures, c.above-2.ensures) (simp or_assoc)

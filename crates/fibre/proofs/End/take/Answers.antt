@@ -28,5 +28,5 @@ returns-then-marked c = sym (cond_false _ _ (fine (goal.at.returns-then-marked c
 pub returns : goal.returns
 unfolding take_of
 returns c =
-    rw (c.stored-end.ensures, c.heard-listening.ensures)
+    rw (c.stored.ensures, c.heard.ensures)
     (sym (cond_false _ _ (fine (goal.at.returns c).Else-bad-block) ∙ cond_false _ _ c.if-marked.false))

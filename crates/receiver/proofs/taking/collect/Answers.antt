@@ -20,14 +20,14 @@ unfolding even
 returns-then-count-eq11 c =
     let p = c in
     rw (lt-leb 512 _ p.if-symbol-ge-MARKED.false, hence p.parity.ensures c.if-parity.true)
-    (rw (ne_eqb _ 0 c.if-count-eq0.false, eq-eqb _ 11 c.if-count-eq11.true))
+    (rw (c.from-place.ensures, ne_eqb _ 0 c.if-count-eq0.false, eq-eqb _ 11 c.if-count-eq11.true))
 
 pub returns-then-parity : goal.returns-then-parity
 unfolding even
 returns-then-parity c =
     let p = c in
     rw (lt-leb 512 _ p.if-symbol-ge-MARKED.false, hence p.parity.ensures c.if-parity.true)
-    (rw (ne_eqb _ 0 c.if-count-eq0.false, ne_eqb _ 11 c.if-count-eq11.false))
+    (rw (c.from-place.ensures, ne_eqb _ 0 c.if-count-eq0.false, ne_eqb _ 11 c.if-count-eq11.false))
 
 pub returns : goal.returns
 unfolding even

@@ -7,11 +7,11 @@ pub returns : goal.returns
 unfolding end_of
 returns c =
     rw (
-      c.sender_of-sender.ensures,
-      c.outbox_of-outbox.ensures,
-      c.collector_of-collector.ensures,
-      c.heard_of-heard.ensures,
-      c.inbox_of-inbox.ensures,
-      c.counts_of-counts.ensures,
-      c.presence_of-presence.ensures,
+      c.sender_of.ensures,
+      c.outbox_of.ensures,
+      c.collector_of.ensures,
+      c.heard_of.ensures,
+      c.inbox_of.ensures,
+      c.counts_of.ensures,
+      c.presence_of.ensures,
     )

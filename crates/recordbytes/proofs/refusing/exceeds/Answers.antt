@@ -1,25 +1,20 @@
--- `refusing::exceeds` meets its contract. The invariant: found so far, or found from i on.
+-- `refusing::exceeds` meets its contract. The invariant: found so far, or found in what is left.
 -- Assumes nothing.
-use mathlib.Core.Path.{refl, ◌∙◌}
-use native.Mathlib.Numerals.{add-one}
-use native.Mathlib.Omega.{arith}
-use Rattle.recordspec.proofs.Bytes.{exceeds_step, none_left}
+use Prim.Native.Nat.{ℕ}
+use mathlib.Core.Bool.{◌||◌}
+use mathlib.Core.List.{List}
+use mathlib.Core.Path.{sym, ap₂, ◌∙◌}
+use Rattle.std.proofs.lemmas.Slice.Zip.{Zip-more, either_empty_from_Zip}
+use Rattle.recordspec.specs.Record.{exceeds}
+use Rattle.recordspec.proofs.Bytes.{exceeds_next, exceeds_ended}
 use Rattle.recordbytes.proofs.refusing.exceeds.Goals as goal
 
-pub loop-i-init : goal.loop-i-init
-loop-i-init c = (omega arith, refl)
-
-pub loop-i-preserved : goal.loop-i-preserved
-loop-i-preserved c =
-    let s = c.args in (
-      omega arith,
-      rw add-one
-          (exceeds_step c.loop-i.found s.bytes.now s.limits.now c.loop-i.i (omega arith)
-          c.loop-i-test.true)
-          ∙ c.loop-i.invariant.1,
-    )
+pub loop-byte-preserved : goal.loop-byte-preserved
+loop-byte-preserved c =
+    let pair = Zip-more c.loop-byte.byte-iterator c.next.new.self _ _ c.in-Some.is c.next.ensures.steps in
+    exceeds_next c.loop-byte.found _ _ _ _
+    ∙ (ap₂ (λ (l m : List ℕ). c.loop-byte.found || exceeds l m) (sym pair.0) (sym pair.1) ∙ c.loop-byte.invariant)
 
 pub returns : goal.returns
 returns c =
-    let s = c.args in
-    none_left _ s.bytes.now s.limits.now c.loop-i.i (omega arith) ∙ c.loop-i.invariant.1
+    exceeds_ended _ _ _ (either_empty_from_Zip c.loop-byte.byte-iterator c.next.new.self _ c.in-None.is c.next.ensures.steps) ∙ c.loop-byte.invariant

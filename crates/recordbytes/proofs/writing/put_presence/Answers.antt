@@ -3,10 +3,7 @@
 use mathlib.Core.Path.{sym, ◌∙◌}
 use Rattle.recordspec.specs.Record.{size}
 use Rattle.laws.proofs.Pieces.{whole}
-use borrow.Author.Rules.{rules}
 use Rattle.recordbytes.proofs.writing.put_presence.Goals as goal
 
 pub returns : goal.returns
-returns c =
-    sym (whole size c.put.new.area (search rules))
-    ∙ (c.put.ensures ∙ rw (c.low.ensures, c.high.ensures))
+returns c = sym (whole size c.put_numbers.new.area c.put_numbers.array_long) ∙ c.put_numbers.ensures

@@ -1,6 +1,5 @@
 -- `pair::slots` meets its contract. The loop's invariant: what is left to run from here ends where the whole run ends.
 --   run_step, run_none   a run by its first turn, and by none
--- The measure is the number of slots left.
 -- Assumes nothing.
 use Prim.Native.Nat.{ℕ, zero, suc, ◌-◌, ◌≤◌, ◌<◌}
 use native.Mathlib.Nat.{not-suc-le-zero}

@@ -1,43 +1,31 @@
 -- `text::numbers::spelled_long` meets its contract. The digits that are left, behind the value so far, spell what the
 -- whole word spells.
 -- Assumes nothing.
+use mathlib.Core.Path.{◌≡◌, refl, ap, ◌∙◌}
 use native.Mathlib.Omega.{arith}
-use Rattle.text.proofs.NumberLaws.{scaled, long_more, long_digits, long_large, long_end}
+use Rattle.std.proofs.Common.{rules, Err}
+use Rattle.text.proofs.NumberLaws.{long_more, long_digits, long_large, long_end}
 use Rattle.text.proofs.numbers.spelled_long.Goals as goal
 
-pub returns-then-d-base : goal.returns-then-d-base
-returns-then-d-base c =
-    let l = c.loop-i in
-    let d = c.digit-d in
-    record { value = long_digits _ _ _ _ _ _ l.invariant.2 d.ensures.value (omega arith) c.if-d-base.true; within = tt }
-
-pub overflow_mul-value : goal.overflow_mul-value
-overflow_mul-value c =
-    let l = c.loop-i in
+pub returns-in_err-value-clause-value : goal.returns-in_err-value-clause-value
+returns-in_err-value-clause-value c =
+    let l = c.loop-byte in
     let a = c.args in
-    omega (arith, scaled l.value a.base (omega arith) (omega arith))
+    let d = c.in_err-value.ensures in
+    let wrong : c.from_residual.result ≡ Err c.in_err-value.field-0.0 = search rules in
+    wrong ∙ ap Err d.0 ∙ long_digits a.base a.most l.value l.byte-index _ a.word.now l.invariant.1 refl (omega arith) d.1
 
-pub overflow_add-value : goal.overflow_add-value
-overflow_add-value c =
-    let l = c.loop-i in
-    let a = c.args in
-    omega (arith, scaled l.value a.base (omega arith) (omega arith))
+pub returns-then-value-most-clause-value : goal.returns-then-value-most-clause-value
+returns-then-value-most-clause-value c =
+    let l = c.loop-byte in
+    let d = c.in_ok-value.ensures in
+    long_large _ _ _ _ _ _ l.invariant.1 d.0 (omega arith) d.1 c.if-value-most.true
 
-pub returns-then-value-most : goal.returns-then-value-most
-returns-then-value-most c =
-    let l = c.loop-i in
-    let d = c.digit-d in
-    record { value = long_large _ _ _ _ _ _ l.invariant.2 d.ensures.value (omega arith) c.if-d-base.false c.if-value-most.true; within = tt }
+pub loop-byte-preserved : goal.loop-byte-preserved
+loop-byte-preserved c =
+    let l = c.loop-byte in
+    let d = c.in_ok-value.ensures in
+    (c.if-value-most.false, long_more _ _ _ _ _ _ l.invariant.1 d.0 (omega arith) d.1 c.if-value-most.false)
 
-pub loop-i-preserved : goal.loop-i-preserved
-loop-i-preserved c =
-    let l = c.loop-i in
-    let d = c.digit-d in (
-      omega arith,
-      omega arith,
-      long_more _ _ _ _ _ _ l.invariant.2 d.ensures.value (omega arith) c.if-d-base.false c.if-value-most.false,
-    )
-
-pub returns : goal.returns
-returns c = let l = c.loop-i in
-    record { value = long_end _ _ _ l.i c.args.word.now l.invariant.2 (omega arith); within = l.invariant.1 }
+pub returns-clause-value : goal.returns-clause-value
+returns-clause-value c = let l = c.loop-byte in long_end _ _ _ l.byte-index c.args.word.now l.invariant.1 (omega arith)

@@ -1,2 +1,0 @@
-pub mod CalledLaws
-pub mod ToldLaws

@@ -1,8 +1,0 @@
--- `sending::acked` meets its contract. By definition. Assumes nothing.
-use mathlib.Core.Path.{refl}
-use Rattle.end.specs.Sending.{acked}
-use Rattle.end.proofs.sending.acked.Goals as goal
-
-pub returns : goal.returns
-unfolding acked
-returns c = refl

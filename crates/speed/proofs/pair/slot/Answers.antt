@@ -1,6 +1,0 @@
--- `pair::slot` meets its contract: each call's result is what it ensures.
--- Assumes nothing.
-use Rattle.speed.proofs.pair.slot.Goals as goal
-
-pub returns : goal.returns
-returns c = cc

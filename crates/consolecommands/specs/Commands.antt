@@ -65,7 +65,9 @@ pub record Reads (w : List ℕ) (ws : List (List ℕ)) (r : Result Command Fault
   pub on : (s : Side) → w ≡ side_name s → r ≡ Ok (Command.On s)
   pub other : ¬ (w ≡ codes "link") → ¬ (w ≡ codes "slot") → ¬ (w ≡ codes "mark") → ((s : Side) → ¬ (w ≡ side_name s)) → r ≡ Err Fault.Command
 
-abbrev pub Performs : {E : Type 0} → (E → ℕ → ℕ → E → Type 0) → (E → ℕ → ℕ → E → Type 0) → (E → Side → ℕ → E → Type 0) → (E → Side → E → Type 0) → Result Command Fault → E → E → List ℕ → List ℕ → Type 0
+abbrev pub Performs : {E : Type 0}
+    → (E → ℕ → ℕ → E → Type 0) → (E → ℕ → ℕ → E → Type 0) → (E → Side → ℕ → E → Type 0) → (E → Side → E → Type 0)
+    → Result Command Fault → E → E → List ℕ → List ℕ → Type 0
 Performs restarts runs marks calls (Err f) e e' before after = e' ≡ e
 Performs restarts runs marks calls (Ok (Command.Link to_b to_a)) e e' before after =
     restarts e to_b to_a e' × (after ≡ before ++ codes "ok\n")

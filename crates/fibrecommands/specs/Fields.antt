@@ -6,7 +6,8 @@
 -- Assumes nothing.
 use Rattle.std.specs.Prelude.{ℕ, List, [], ◌∷◌, codes}
 use Rattle.fibrecommands.specs.declared.fields.Field.{Field}
-use Rattle.fibrecommands.specs.declared.fields.Field.TheVariants.{Txreq, Phyt, Mert, Control, Words, SentMsgt, SentPhyt, SentMert, SentControl, SentWords, Rxval, RxToggle, RxControl, RxWords}
+use Rattle.fibrecommands.specs.declared.fields.Field.TheVariants.{Txreq, Phyt, Mert, Control, Words, Rxval, RxToggle, RxControl, RxWords}
+use Rattle.fibrecommands.specs.declared.fields.Field.TheVariants.{SentMsgt, SentPhyt, SentMert, SentControl, SentWords}
 
 abbrev pub all_of : List Field
 all_of =

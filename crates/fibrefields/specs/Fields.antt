@@ -5,7 +5,8 @@
 use Rattle.std.specs.Prelude.{ℕ, eqb, get_or, set}
 use Rattle.fibre.specs.declared.End.{End}
 use Rattle.fibrecommands.specs.declared.fields.Field.{Field}
-use Rattle.fibrecommands.specs.declared.fields.Field.TheVariants.{Txreq, Phyt, Mert, Control, Words, SentMsgt, SentPhyt, SentMert, SentControl, SentWords, Rxval, RxToggle, RxControl, RxWords}
+use Rattle.fibrecommands.specs.declared.fields.Field.TheVariants.{Txreq, Phyt, Mert, Control, Words, Rxval, RxToggle, RxControl, RxWords}
+use Rattle.fibrecommands.specs.declared.fields.Field.TheVariants.{SentMsgt, SentPhyt, SentMert, SentControl, SentWords}
 use Rattle.fibrefields.specs.Numbers.{bit_of}
 
 abbrev pub value_of : End → Field → ℕ → ℕ

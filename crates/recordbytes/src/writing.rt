@@ -31,7 +31,7 @@ pub fn put_newer(area: &mut [u8; SIZE], old: &[u8])
 {
     put_head(area);
     put(area, 3, &old[3..71]);
-    put(area, 71, &old[72..]);
+    put_each(area, 71, &old[72..]);
     area[old.len() - 1..].fill(0);
 }
 
@@ -138,4 +138,15 @@ fn put(area: &mut [u8; SIZE], at: usize, bytes: &[u8])
     ensures { take (at + length bytes.now) area.new ≡ take at area.old ++ bytes.now }
 {
     area[at..at + bytes.len()].copy_from_slice(bytes);
+}
+
+// The same, one at a time: a copy whose length only the run knows would be a call of memmove, and C would have to bring
+// it. So a part of a fixed length goes by `put`, and one of another by this.
+fn put_each(area: &mut [u8; SIZE], at: usize, bytes: &[u8])
+    requires { at + length bytes.now ≤ size }
+    ensures { take (at + length bytes.now) area.new ≡ take at area.old ++ bytes.now }
+{
+    for (i, &byte) in bytes.iter().enumerate() {
+        area[at + i] = byte;
+    }
 }

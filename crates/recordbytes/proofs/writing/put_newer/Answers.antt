@@ -18,6 +18,6 @@ returns c =
     let cleared : zeros ≡ replicate (102 - length r) 0 =
     c.fill.ensures.after (λ y e. e) ∙ ap (λ (n : ℕ). replicate {A = ℕ} n 0) (search rules)
     in
-    let long = same_len_mid (length r - 1) _ c.put-2.new.area zeros c.fill.ensures.len ∙ c.put-2.array_long in
-    built_newer r c.put_head.new.area c.put.new.area c.put-2.new.area _ _ _ zeros (omega arith) (omega arith) long refl (rest 72 r) cleared c.put_head.ensures
-    c.put.ensures c.put-2.ensures (take-put_mid (length r - 1) _ c.put-2.new.area zeros _ refl (omega arith))
+    let long = same_len_mid (length r - 1) _ c.put_each.new.area zeros c.fill.ensures.len ∙ c.put_each.array_long in
+    built_newer r c.put_head.new.area c.put.new.area c.put_each.new.area _ _ _ zeros (omega arith) (omega arith) long refl (rest 72 r) cleared c.put_head.ensures
+    c.put.ensures c.put_each.ensures (take-put_mid (length r - 1) _ c.put_each.new.area zeros _ refl (omega arith))

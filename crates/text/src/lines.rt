@@ -4,8 +4,6 @@
 ghost use Rattle.std.specs.Prelude.{◌≡◌, ◌≤◌, ◌+◌, length, take, drop};
 ghost use Rattle.text.specs.Lines.{found_of, line_of, stop_of, Holds, Within};
 
-use crate::words;
-
 // A line too long to be held is being passed over, and quietly where it is a comment.
 #[derive(Clone, Copy, Debug, PartialEq, Eq)]
 pub enum Passing {
@@ -132,14 +130,18 @@ impl Held {
         if let Some(passing) = self.passing {
             return Held::passed_over(passing);
         }
-        text.copy_within(self.start..self.filled, 0);
+        // Where it is at the front already, a copy would go over all that is held at each read.
+        if self.start > 0 {
+            text.copy_within(self.start..self.filled, 0);
+        }
         let count = self.filled - self.start;
         if count < text.len() {
             return Held::open_to(count);
         }
-        match words::next(text) {
+        // Where the first word ends is not asked: it may fill the text.
+        match text.iter().find(|byte| **byte != b' ') {
             None => Held::open_to(0),
-            Some((word, _)) if word.starts_with(b"#") => Held::passed_over(Passing::Quiet),
+            Some(b'#') => Held::passed_over(Passing::Quiet),
             Some(_) => Held::passed_over(Passing::Told),
         }
     }

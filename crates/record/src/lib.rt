@@ -213,9 +213,11 @@ fn on_end<T, F: FnOnce(End) -> (T, End)>(area: &mut [u8], call: F) -> Option<T>
     requires { F.IsAlwaysCallable call }
     ensures { Made area.old area.new (λ x n. F.post call (end_of area.old) (x, n)) result }
 {
-    let end = end_in(area)?;
+    if refused(area) {
+        return None;
+    }
     let record = area.as_mut_array::<SIZE>()?;
-    let (said, next) = call(end);
+    let (said, next) = call(end_of(record));
     put_end(record, next);
     Some(said)
 }

@@ -59,6 +59,7 @@ pub fn place(list: &[u16]) -> Found
     }
     let mut symbols = [0u16; 12];
     let mut at = 0;
+    let mut found = false;
     // No `for`, as it goes on by one to twelve places; over `first_chunk` the place would be carried by hand as well.
     'places: while at + frame::SYMBOLS <= list.len() {
         // From the last of the twelve to the first: those behind a fault are then known to start no frame. Each is
@@ -72,16 +73,21 @@ pub fn place(list: &[u16]) -> Found
             symbols[k] = symbol;
         }
         if frame::crc_right(symbols) {
-            return Found {
-                answer: Answer::Done,
-                place: at,
-            };
+            found = true;
+            break 'places;
         }
         at += frame::SYMBOLS;
     }
-    Found {
-        answer: Answer::NothingFound,
-        place: 0,
+    if found {
+        Found {
+            answer: Answer::Done,
+            place: at,
+        }
+    } else {
+        Found {
+            answer: Answer::NothingFound,
+            place: 0,
+        }
     }
 }
 

@@ -1,2 +1,3 @@
 pub mod DumpLaws
+pub mod NameLaws
 pub mod SlotLaws

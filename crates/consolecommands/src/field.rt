@@ -1,6 +1,6 @@
 // The fields of an end, whatever the end: what dump prints and set writes.
 ghost use Rattle.std.specs.Prelude.{◌≡◌, ◌≤◌, ◌<◌, IfOk, IfNone, IfSome, All, List, ℕ};
-ghost use Rattle.consolecommands.specs.Fields.{Sets};
+ghost use Rattle.consolecommands.specs.Fields.{Placed, Sets};
 ghost use Rattle.text.specs.Numbers.{first_of};
 ghost use Rattle.text.specs.Words.{rest_of, words_of};
 
@@ -42,8 +42,9 @@ pub struct Setting<F> {
     pub value: u16,
 }
 
-// The field of that name.
+// The field of that name: the one at the word's place among the names of all.
 pub fn named<F: Field>(word: &[u8]) -> Option<F>
+    ensures place { Placed F.name_of F.all_of word.now result }
     ensures named { IfSome result (λ field. F.name_of field ≡ word.now) }
     ensures other { IfNone result (All (λ field. ¬ (F.name_of field ≡ word.now)) F.all_of) }
 {

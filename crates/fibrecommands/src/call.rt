@@ -1,6 +1,8 @@
 // What a line asks of an end.
-ghost use Rattle.std.specs.Prelude.{IfOk};
-ghost use Rattle.fibrecommands.specs.Calls.{Bools, Within};
+ghost use Rattle.std.specs.Prelude.{◌≡◌, IfOk};
+ghost use Rattle.fibrecommands.specs.Calls.{Asks, Bools, Reads, Within};
+ghost use Rattle.text.specs.Numbers.{list_of, these};
+ghost use Rattle.text.specs.Words.{words_of};
 
 use crate::fields::Field;
 use consolecommands::alone::alone;
@@ -31,10 +33,19 @@ pub enum Call {
 
 // What a line asks for.
 pub fn parsed(line: &[u8]) -> Result<Call, Fault>
-    ensures { IfOk result Within }
+    ensures reads { IfOk result (Reads (words_of line.now)) }
+    ensures within { IfOk result Within }
 {
-    let (name, rest) = next(line).ok_or(Fault::Call)?;
-    match name {
+    let (word, rest) = next(line).ok_or(Fault::Call)?;
+    call_of(word, rest)
+}
+
+// What a word asks for with what stands behind it.
+fn call_of(word: &[u8], rest: &[u8]) -> Result<Call, Fault>
+    ensures asks { IfOk result (Asks word.now (words_of rest.now)) }
+    ensures within { IfOk result Within }
+{
+    match word {
         b"reset" => alone(Call::Reset, rest),
         b"send" => alone(Call::Send, rest),
         b"take" => Ok(Call::Take(block(rest)?)),
@@ -51,7 +62,8 @@ pub fn parsed(line: &[u8]) -> Result<Call, Fault>
 
 // A block's numbers. One that says yes or no is 0 or 1.
 fn block(line: &[u8]) -> Result<[u16; NUMBERS], Fault>
-    ensures { IfOk result Bools }
+    ensures listed { IfOk result (λ l. list_of 65535 13 (words_of line.now) ≡ these l) }
+    ensures bools { IfOk result Bools }
 {
     let mut numbers = [0; NUMBERS];
     if lists::read(line, 65535, &mut numbers)? < NUMBERS {

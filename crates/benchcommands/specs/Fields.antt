@@ -4,7 +4,7 @@
 --   elements_of f  how many elements it has; 1 where it is no array
 --   largest_of f   the largest value of one
 -- Assumes nothing.
-use Rattle.std.specs.Prelude.{ℕ, List, [], ◌∷◌, codes}
+use Rattle.std.specs.Prelude.{ℕ, List, [], ◌∷◌, codes, ◌≡◌, refl, map, sum}
 use Rattle.benchcommands.specs.declared.fields.Field.{Field}
 
 abbrev pub all_of : List Field
@@ -104,3 +104,7 @@ largest_of Field.PartnerHealth = 255
 largest_of Field.RxNumber = 255
 largest_of Field.RxBytes = 255
 largest_of _ = 1
+
+-- the elements of all fields together: as many values as a dump has
+values : sum (map elements_of all_of) ≡ 69
+values = refl

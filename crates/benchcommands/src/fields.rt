@@ -1,5 +1,6 @@
 // The fields of an end, as dump prints them and set writes them. A later field is one more variant here, with its name,
 // and one more value in dump and one more in set.
+ghost use Rattle.std.specs.Prelude.{◌≡◌, ◌≤◌};
 ghost use Rattle.benchcommands.specs.Fields.{all_of, name_of, elements_of, largest_of};
 
 use consolecommands::field;
@@ -79,6 +80,9 @@ const FIELDS: [Field; 33] = [
     Field::PresenceLeft,
 ];
 
+// How many values a dump has: the elements of all fields together.
+pub const VALUES: usize = 69;
+
 impl field::Field for Field {
     ghost all_of = { all_of };
 
@@ -131,7 +135,10 @@ impl field::Field for Field {
     }
 
     // 1 where a field is no array.
-    fn elements(self) -> usize {
+    fn elements(self) -> usize
+        ensures value { result ≡ elements_of self }
+        ensures some { 1 ≤ result }
+    {
         match self {
             Field::Tx | Field::Rx => 12,
             Field::Bytes | Field::RxBytes => 8,

@@ -1,5 +1,6 @@
 -- What dump prints, an element and a field at a time.
 --   joined_more      a text behind a byte behind a text is one text
+--   elements_none    of no elements nothing is printed
 --   elements_one     the first element, printed, is what is printed of one
 --   elements_more    with a comma and the next element behind it, what is printed of n is what is printed of n + 1
 --   dump_end         behind the last field nothing is printed
@@ -25,6 +26,15 @@ commas_more : (vs : List ℕ) (w : ℕ) → 0 < length vs → commas (vs ++ w �
 unfolding commas
 commas_more [] w h = absurd (omega arith)
 commas_more (v ∷ vs) w h = sym (flat_map_more (λ w. 44 ∷ short_of 16 4 w) (short_of 16 4 v) vs w)
+
+pub elements_none : (P : ℕ → ℕ → Type 0) (n : ℕ) → n ≡ 0 → Elements P n []
+unfolding commas
+elements_none P n e = record {
+  values = [];
+  count = sym e;
+  each = λ i b. absurd (omega arith);
+  printed = refl;
+}
 
 pub elements_one : (P : ℕ → ℕ → Type 0) (v : ℕ) → P 0 v → Elements P 1 (short_of 16 4 v)
 unfolding commas

@@ -36,6 +36,9 @@ fn joined<F: Field, V: Fn(F, usize) -> u16>(field: F, value: &V, out: &mut Outpu
         × (written out.new ≡ written out.old ++ text) }
 {
     let elements = field.elements();
+    if elements == 0 {
+        return;
+    }
     out.short_hex(value(field, 0));
     for i in 1..elements {
         out.byte(b',');

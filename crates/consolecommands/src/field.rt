@@ -26,8 +26,7 @@ pub trait Field: Copy + 'static {
         ensures value { result.now ≡ name_of self };
 
     fn elements(self) -> usize
-        ensures value { result ≡ elements_of self }
-        ensures some { 1 ≤ result };
+        ensures value { result ≡ elements_of self };
 
     fn largest(self) -> u64
         ensures value { result ≡ largest_of self }
@@ -73,7 +72,6 @@ impl<F: Field> Setting<F> {
 
 // The element of an array of so many, and what stands behind it. It has no word where there is only one.
 fn element_of(count: usize, line: &[u8]) -> Result<(usize, &[u8]), Fault>
-    requires { 1 ≤ count }
     ensures within { IfOk result (λ r. r.0 < count) }
     ensures single { count ≡ 1 → IfOk result (λ r. (r.0 ≡ 0) × (words_of r.1.now ≡ words_of line.now)) }
     ensures several { ¬ (count ≡ 1) → IfOk result (λ r.

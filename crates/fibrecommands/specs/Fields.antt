@@ -4,7 +4,7 @@
 --   elements_of f  how many elements it has: the eight words, or 1 where it is no array
 --   largest_of f   its largest value: a control or a word has sixteen bits, a bool one
 -- Assumes nothing.
-use Rattle.std.specs.Prelude.{ℕ, List, [], ◌∷◌, codes}
+use Rattle.std.specs.Prelude.{ℕ, List, [], ◌∷◌, codes, ◌≡◌, refl, map, sum}
 use Rattle.fibrecommands.specs.declared.fields.Field.{Field}
 use Rattle.fibrecommands.specs.declared.fields.Field.TheVariants.{Txreq, Phyt, Mert, Control, Words, Rxval, RxToggle, RxControl, RxWords}
 use Rattle.fibrecommands.specs.declared.fields.Field.TheVariants.{SentMsgt, SentPhyt, SentMert, SentControl, SentWords}
@@ -43,3 +43,7 @@ largest_of SentWords = 65535
 largest_of RxControl = 65535
 largest_of RxWords = 65535
 largest_of _ = 1
+
+-- the elements of all fields together: as many values as a dump has
+values : sum (map elements_of all_of) ≡ 35
+values = refl

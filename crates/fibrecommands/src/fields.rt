@@ -1,4 +1,5 @@
 // The fields of an end, by name: what dump prints and set writes.
+ghost use Rattle.std.specs.Prelude.{◌≡◌, ◌≤◌};
 ghost use Rattle.fibrecommands.specs.Fields.{all_of, elements_of, largest_of, name_of};
 
 use consolecommands::field;
@@ -40,6 +41,9 @@ static FIELDS: [Field; 14] = [
     Field::RxWords,
 ];
 
+// How many values a dump has: the elements of all fields together.
+pub const VALUES: usize = 35;
+
 impl field::Field for Field {
     ghost all_of = { all_of };
 
@@ -73,7 +77,10 @@ impl field::Field for Field {
     }
 
     // 1 where a field is no array.
-    fn elements(self) -> usize {
+    fn elements(self) -> usize
+        ensures value { result ≡ elements_of self }
+        ensures some { 1 ≤ result }
+    {
         match self {
             Field::Words | Field::SentWords | Field::RxWords => 8,
             _ => 1,

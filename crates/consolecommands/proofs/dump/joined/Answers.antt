@@ -1,8 +1,13 @@
 -- `consolecommands::dump::joined` meets its contract. Assumes nothing.
-use Rattle.std.proofs.Common.{◌∷◌, ◌++◌, arith}
+use Rattle.std.proofs.Common.{[], ◌∷◌, ◌++◌, sym, ◌∙◌, arith}
+use Rattle.std.proofs.lemmas.List.{append-nil}
 use Rattle.text.specs.Printed.{short_of}
-use Rattle.consolecommands.proofs.DumpLaws.{elements_one, elements_more, joined_more}
+use Rattle.consolecommands.proofs.DumpLaws.{elements_none, elements_one, elements_more, joined_more}
 use Rattle.consolecommands.proofs.dump.joined.Goals as goal
+
+pub returns-then-elements-eq0-clause-written : goal.returns-then-elements-eq0-clause-written
+returns-then-elements-eq0-clause-written g c =
+    ([], elements_none _ _ (sym c.elements-elements.ensures.value ∙ c.if-elements-eq0.true), sym (append-nil _))
 
 pub loop-i-init : goal.loop-i-init
 loop-i-init g c = (

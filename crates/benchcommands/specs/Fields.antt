@@ -6,6 +6,7 @@
 -- Assumes nothing.
 use Rattle.std.specs.Prelude.{ℕ, List, [], ◌∷◌, codes, ◌≡◌, refl, map, sum}
 use Rattle.benchcommands.specs.declared.fields.Field.{Field}
+use Rattle.benchcommands.specs.declared.fields.TheConstants.{VALUES}
 
 abbrev pub all_of : List Field
 all_of =
@@ -106,5 +107,5 @@ largest_of Field.RxBytes = 255
 largest_of _ = 1
 
 -- the elements of all fields together: as many values as a dump has
-values : sum (map elements_of all_of) ≡ 69
+values : sum (map elements_of all_of) ≡ VALUES
 values = refl

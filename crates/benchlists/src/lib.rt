@@ -2,12 +2,13 @@
 #![tactic(auto)]
 
 ghost use Rattle.std.specs.Prelude.{◌++◌, ◌≡◌, ◌≤◌, ◌+◌, List, ℕ, length};
+ghost use Rattle.text.specs.declared.fault.Fault.{Fault};
 ghost use Rattle.benchlists.specs.Listed.{Takes, build_line, bytes_of, check_line, crc_line, failed_of, find_line};
 ghost use Rattle.benchlists.specs.Listed.{largest_of, line_of};
 ghost use Rattle.console.specs.Ready.{Room};
-ghost use Rattle.text.specs.Numbers.{list_of, these};
+ghost use Rattle.text.specs.Numbers.{list_of, these, wrong};
 ghost use Rattle.text.specs.Words.{words_of};
-ghost use Rattle.text.specs.Written.{Kept, written};
+ghost use Rattle.text.specs.Written.{Kept, Told, written};
 
 use benchcommands::bytes::bytes_of;
 use benchcommands::lists::ListCommand;
@@ -24,6 +25,13 @@ pub fn answered(command: ListCommand, rest: &[u8], symbols: &mut [u16], out: &mu
         → list_of (largest_of command) (length symbols.old) (words_of rest.now) ≡ these list
         → Takes command list
         → written out.new ≡ written out.old ++ line_of command list }
+    ensures miscounted { (list : List ℕ)
+        → list_of (largest_of command) (length symbols.old) (words_of rest.now) ≡ these list
+        → ¬ (Takes command list)
+        → Told (written out.old) (written out.new) }
+    ensures faulty { (fault : Fault)
+        → list_of (largest_of command) (length symbols.old) (words_of rest.now) ≡ wrong fault
+        → Told (written out.old) (written out.new) }
 {
     match read(rest, largest(command), symbols) {
         Ok(count) => answer(command, &symbols[..count], out),
@@ -48,6 +56,7 @@ fn answer(command: ListCommand, list: &[u16], out: &mut Output)
     ensures kept { Kept out.old out.new }
     ensures written { Takes command list.now
         → written out.new ≡ written out.old ++ line_of command list.now }
+    ensures miscounted { ¬ (Takes command list.now) → Told (written out.old) (written out.new) }
 {
     match command {
         ListCommand::Check => check(list, out),
@@ -101,6 +110,7 @@ fn crc(list: &[u16], out: &mut Output)
     ensures kept { Kept out.old out.new }
     ensures written { length list.now ≡ 10
         → written out.new ≡ written out.old ++ crc_line (bytes_of list.now) }
+    ensures miscounted { ¬ (length list.now ≡ 10) → Told (written out.old) (written out.new) }
 {
     let Some(bytes) = bytes_of(list) else {
         out.fault(Fault::Count);
@@ -118,6 +128,7 @@ fn build(list: &[u16], out: &mut Output)
     ensures kept { Kept out.old out.new }
     ensures written { length list.now ≡ 10
         → written out.new ≡ written out.old ++ build_line (bytes_of list.now) }
+    ensures miscounted { ¬ (length list.now ≡ 10) → Told (written out.old) (written out.new) }
 {
     let Some(bytes) = bytes_of(list) else {
         out.fault(Fault::Count);

@@ -1,7 +1,7 @@
 -- What a call on the reporting host of an end prints, request #110: its line, behind what was printed before.
 --   offer_line h l        what offer prints of the list l
 --   PrintsOffer h x u v   offer with the list x behind it printed v, and u was printed before; of a list with a fault
---                         nothing is said
+--                         what is wrong with it
 --   Prints k h e x u v    the same of the call k on the host h and the end e
 -- Assumes nothing.
 use Rattle.std.specs.Prelude.{cond, List, ◌++◌, ◌≡◌, eqb, length, ℕ}
@@ -10,6 +10,7 @@ use Rattle.end.specs.declared.End.{End}
 use Rattle.report.specs.Sending.{offer_of, push_of}
 use Rattle.report.specs.Taking.{pull_of}
 use Rattle.text.specs.Numbers.{Numbers, these, wrong}
+use Rattle.text.specs.Written.{Told}
 use Rattle.benchreports.specs.declared.Host.{Host}
 use Rattle.benchreports.specs.Called.{bytes_of}
 use Rattle.benchreports.specs.Told.{answer_line, miscounted_line, push_line, pull_line, report_line}
@@ -20,7 +21,7 @@ offer_line h l =
 
 abbrev pub PrintsOffer : Host → Numbers → List ℕ → List ℕ → Type 0
 PrintsOffer h (these l) u v = v ≡ u ++ offer_line h l
-PrintsOffer h (wrong f) u v = Unit {0}
+PrintsOffer h (wrong f) u v = Told u v
 
 abbrev pub Prints : HostCall → Host → End → Numbers → List ℕ → List ℕ → Type 0
 Prints HostCall.Offer h e x u v = PrintsOffer h x u v

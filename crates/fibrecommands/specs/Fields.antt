@@ -6,6 +6,7 @@
 -- Assumes nothing.
 use Rattle.std.specs.Prelude.{ℕ, List, [], ◌∷◌, codes, ◌≡◌, refl, map, sum}
 use Rattle.fibrecommands.specs.declared.fields.Field.{Field}
+use Rattle.fibrecommands.specs.declared.fields.TheConstants.{VALUES}
 use Rattle.fibrecommands.specs.declared.fields.Field.TheVariants.{Txreq, Phyt, Mert, Control, Words, Rxval, RxToggle, RxControl, RxWords}
 use Rattle.fibrecommands.specs.declared.fields.Field.TheVariants.{SentMsgt, SentPhyt, SentMert, SentControl, SentWords}
 
@@ -45,5 +46,5 @@ largest_of RxWords = 65535
 largest_of _ = 1
 
 -- the elements of all fields together: as many values as a dump has
-values : sum (map elements_of all_of) ≡ 35
+values : sum (map elements_of all_of) ≡ VALUES
 values = refl

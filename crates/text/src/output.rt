@@ -14,7 +14,7 @@ pub struct Output<'a> {
 }
 
 impl<'a> Output<'a> {
-    ghost use Rattle.text.specs.Written.{Kept, written};
+    ghost use Rattle.text.specs.Written.{Kept, Told, written};
 
     // One byte.
     pub fn byte(&mut self, b: u8)
@@ -141,6 +141,7 @@ impl<'a> Output<'a> {
         ensures at_bound { self.new.at ≤ self.old.at + 32 }
         ensures kept { Kept self.old self.new }
         ensures stays { take self.old.at self.new.bytes.now ≡ written self.old }
+        ensures told { Told (written self.old) (written self.new) }
     {
         self.text(b"? ");
         self.text(fault.reason());

@@ -6,17 +6,18 @@
 --                              stands its first one
 --   rest_place                 where the rest of a line begins
 --   last_is, first_letter      none_of what next answers; asks_of by a word's first letter
+--   spaces_more, spaces_stop, spaces_end   spaces_of at a place where a space stands, where none does, and at the end
 -- Assumes nothing.
 use Prim.Native.Nat.{ℕ, zero, suc, ◌+◌, ◌-◌, ◌≤◌, ◌<◌}
 use mathlib.Core.Bool.{Bool, true, false, cond, not}
 use mathlib.Core.List.{List, [], ◌∷◌, ◌++◌, append-nil, append_assoc}
 use mathlib.Core.Path.{◌≡◌, refl, sym, ap, ◌∙◌}
-use native.Mathlib.Numerals.{one-add}
+use native.Mathlib.Numerals.{add-one, one-add}
 use native.Mathlib.Omega.{arith}
-use borrow.Author.Tests.{ltb-true, ltb-false}
+use borrow.Author.Tests.{eq-eqb, ne_eqb, ltb-true, ltb-false}
 use lib.Dec.{eqb, ltb}
 use lib.ListN.{length, take, drop, get_or, length-drop, drop_of_length-le}
-use lib.Seq.{drop-drop, drop-append_seam, take-length}
+use lib.Seq.{drop-cons, drop-drop, drop-length, drop-append_seam, take-length}
 use denote.Ref.{Bor}
 use Rattle.std.specs.Prelude.{Option, Some, None, position, is_some, MatchOption}
 use Rattle.std.specs.List.{position_or_len}
@@ -174,3 +175,21 @@ pub first_letter : (l w r : List ℕ) (t : Bool) → Stands l w r → eqb (get_o
     → asks_of (words_of l) ≡ not t
 unfolding asks_of
 first_letter l w r t s e = rw (s.words, e) refl
+
+-- Places
+
+pub spaces_more : (l : List ℕ) (i k : ℕ) → i < length l → get_or l i 0 ≡ 32 → i + spaces_of (drop i l) ≡ k
+    → (i + 1) + spaces_of (drop (i + 1) l) ≡ k
+unfolding spaces_of
+spaces_more l i k h e f =
+    let one : spaces_of (drop i l) ≡ suc (spaces_of (drop (i + 1) l)) =
+    rw (drop-cons l i 0 h, eq-eqb (get_or l i 0) 32 e, add-one) refl in
+    omega arith
+
+pub spaces_stop : (l : List ℕ) (i : ℕ) → i < length l → (get_or l i 0 ≡ 32 → ⊥) → spaces_of (drop i l) ≡ 0
+unfolding spaces_of
+spaces_stop l i h n = rw (drop-cons l i 0 h, ne_eqb (get_or l i 0) 32 n) refl
+
+pub spaces_end : (l : List ℕ) (i : ℕ) → i ≡ length l → spaces_of (drop i l) ≡ 0
+unfolding spaces_of
+spaces_end l i e = rw (e, drop-length l) refl

@@ -4,6 +4,8 @@
 ghost use Rattle.std.specs.Prelude.{◌≡◌, ◌≤◌, ◌+◌, length, take, drop};
 ghost use Rattle.text.specs.Lines.{found_of, line_of, stop_of, Holds, Within};
 
+use crate::words;
+
 // A line too long to be held is being passed over, and quietly where it is a comment.
 #[derive(Clone, Copy, Debug, PartialEq, Eq)]
 pub enum Passing {
@@ -138,8 +140,7 @@ impl Held {
         if count < text.len() {
             return Held::open_to(count);
         }
-        // Where the first word ends is not asked: it may fill the text.
-        match text.iter().find(|byte| **byte != b' ') {
+        match text.get(words::past_spaces(text)) {
             None => Held::open_to(0),
             Some(b'#') => Held::passed_over(Passing::Quiet),
             Some(_) => Held::passed_over(Passing::Told),

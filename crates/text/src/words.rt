@@ -1,6 +1,6 @@
 // Words of a line. One or more spaces separate them.
-ghost use Rattle.std.specs.Prelude.{[], ◌≡◌, ◌-◌, true, false, length, drop, IfSome, MatchOption};
-ghost use Rattle.text.specs.Words.{asks_of, none_of, rest_of, words_of, Stands};
+ghost use Rattle.std.specs.Prelude.{[], ◌≡◌, ◌≤◌, ◌-◌, true, false, length, drop, IfSome, MatchOption};
+ghost use Rattle.text.specs.Words.{asks_of, none_of, rest_of, spaces_of, words_of, Stands};
 
 // The next word, and what stands behind it.
 pub fn next(line: &[u8]) -> Option<(&[u8], &[u8])>
@@ -13,6 +13,22 @@ pub fn next(line: &[u8]) -> Option<(&[u8], &[u8])>
         .position(|byte| *byte == b' ')
         .unwrap_or(line.len());
     Some(line.split_at(end))
+}
+
+// The first place that has no space. It goes by places, which a compiler can take many of at a time, and no iterator:
+// a line too long to be held may be all spaces.
+pub(crate) fn past_spaces(line: &[u8]) -> usize
+    ensures in_bounds { result ≤ length line.now }
+    ensures value { result ≡ spaces_of line.now }
+{
+    let mut at = 0;
+    while at < line.len() {
+        if line[at] != b' ' {
+            return at;
+        }
+        at += 1;
+    }
+    at
 }
 
 // What stands behind the next word; nothing where there is none.

@@ -1,6 +1,7 @@
 -- Output, before and after something was put behind it.
 --   written o     the bytes that are written
---   Told u v      v is u, and behind it what is wrong with a line: a question mark, a space, a reason and a newline
+--   Told u v      v is u, and behind it what is wrong with a line: a question mark, a space, a reason of at most 24
+--                 bytes and a newline
 --   Kept o n      n goes to the same bytes of the caller's as o, and there are as many of them
 -- Assumes nothing.
 use Rattle.std.specs.Prelude.{List, [], ◌∷◌, ◌++◌, ℕ, ◌≡◌, ◌≤◌, length, take, codes}

@@ -12,7 +12,7 @@
 --                       before, and that is within what is held
 --   Within f n          a whole line that was found stands in a text of n bytes
 -- Assumes nothing.
-use Rattle.std.specs.Prelude.{ℕ, ◌+◌, ◌-◌, ◌≤◌, Option, Some, None, cond, List, eqb, ltb, get_or}
+use Rattle.std.specs.Prelude.{ℕ, ◌+◌, ◌-◌, ◌≤◌, Option, Some, None, cond, List, [], ◌∷◌, ◌≡◌, refl, eqb, ltb, get_or}
 use Rattle.text.specs.Bytes.{index_of, slice}
 use Rattle.text.specs.declared.lines.Found.{Found}
 use Rattle.text.specs.declared.lines.Held.{Held}
@@ -57,3 +57,48 @@ abbrev pub Within : Found → ℕ → Type 0
 Within (Found.Whole s e) n = (s ≤ e) × (e ≤ n)
 Within Found.TooLong n = Unit {0}
 Within Found.Open n = Unit {0}
+
+-- Computed cases. The text is "ab", a carriage return, a newline, "c", a carriage return twice, a newline, "de": twelve
+-- bytes are room for it, and ten of them are held.
+abbrev text : List ℕ
+text = 0x61 ∷ 0x62 ∷ 0x0D ∷ 0x0A ∷ 0x63 ∷ 0x0D ∷ 0x0D ∷ 0x0A ∷ 0x64 ∷ 0x65 ∷ 0x0A ∷ 0x0A ∷ []
+
+-- of ten bytes that are held the open line begins at a, and was looked at up to b
+abbrev at : ℕ → ℕ → Option Passing → Held
+at a b p = record { filled = 10; start = a; looked = b; passing = p }
+
+abbrev next : Found → Held → Line
+next f h = record { found = f; held = h }
+
+-- "ab": the newline and the carriage return before it are no part of the line, and the next one begins behind them
+first : line_of text (at 0 0 None) ≡ next (Found.Whole 0 2) (at 4 4 None)
+unfolding index_of slice line_by
+first = refl
+
+-- it begins where it began, however far it was looked at
+looked_at : line_of text (at 0 3 None) ≡ next (Found.Whole 0 2) (at 4 4 None)
+unfolding index_of slice line_by
+looked_at = refl
+
+-- of two carriage returns the first stays
+two_returns : line_of text (at 4 4 None) ≡ next (Found.Whole 4 6) (at 8 8 None)
+unfolding index_of slice line_by
+two_returns = refl
+
+-- "de" is open: what stands behind what is held does not end it
+left_open : line_of text (at 8 8 None) ≡ next Found.Open (at 8 10 None)
+unfolding index_of slice line_by
+left_open = refl
+
+-- a line that was passed over, told and quietly, and one that still is
+told : line_of text (at 0 0 (Some Passing.Told)) ≡ next Found.TooLong (at 4 4 None)
+unfolding index_of slice line_by
+told = refl
+
+quiet : line_of text (at 0 0 (Some Passing.Quiet)) ≡ next (Found.Whole 0 0) (at 4 4 None)
+unfolding index_of slice line_by
+quiet = refl
+
+still : line_of text (at 8 8 (Some Passing.Told)) ≡ next Found.Open (at 8 10 (Some Passing.Told))
+unfolding index_of slice line_by
+still = refl

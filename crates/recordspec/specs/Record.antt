@@ -30,7 +30,8 @@
 --                    length, its version is another, the number is too large, or some byte is above the largest for its
 --                    place; Wrong r, WrongBefore n v r, of the record of now and of before
 -- Assumes nothing.
-use Rattle.std.specs.Prelude.{ℕ, ◌+◌, ◌-◌, ◌*◌, ◌/◌, ◌%◌, ◌<◌, Bool, true, false, not, ◌&&◌, ◌||◌, List, [], ◌∷◌, ◌++◌, ◌≡◌, eqb, ltb, length, get_or, take, drop, replicate}
+use Rattle.std.specs.Prelude.{ℕ, ◌+◌, ◌-◌, ◌*◌, ◌/◌, ◌%◌, ◌<◌, Bool, true, false, not, ◌&&◌, ◌||◌, ◌≡◌, eqb, ltb}
+use Rattle.std.specs.Prelude.{List, [], ◌∷◌, ◌++◌, length, get_or, take, drop, replicate}
 use Rattle.end.specs.declared.End.{End}
 use Rattle.end.specs.declared.Sender.{Sender}
 use Rattle.end.specs.declared.Outbox.{Outbox}
